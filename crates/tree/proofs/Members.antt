@@ -1,0 +1,63 @@
+-- Members of lists: decided, in two lists put together, and lists without a member twice.
+use Prim.Native.Nat.{ℕ, zero, suc, _+_, _≤_, _<_}
+use mathlib.Core.Path.{_≡_, refl, sym}
+use mathlib.Core.Logic.{_⊎_, inl, inr, ⊎-elim}
+use mathlib.Core.List.{List, [], _∷_, _++_}
+use native.Mathlib.Decide.{ℕ-discrete}
+use Rattle.tree.specs.Members.{In, at, past, Distinct}
+
+pub not-nil : {x : ℕ} → ¬ In x []
+not-nil h = elim h [ ]
+
+unfoldable pub in? : (x : ℕ) (l : List ℕ) → Dec (In x l)
+in? x [] = no not-nil
+in? x (y ∷ l) = pick (ℕ-discrete x y) (in? x l)
+  where
+    neither : ¬ (x ≡ y) → ¬ In x l → ¬ In x (y ∷ l)
+    neither n m (at e) = n e
+    neither n m (past h) = m h
+
+    pick : Dec (x ≡ y) → Dec (In x l) → Dec (In x (y ∷ l))
+    pick (yes e) d = yes (at e)
+    pick (no n) (yes h) = yes (past h)
+    pick (no n) (no m) = no (neither n m)
+
+unfoldable pub distinct? : (l : List ℕ) → Dec (Distinct l)
+distinct? [] = yes tt
+distinct? (x ∷ l) = pick (in? x l) (distinct? l)
+  where
+    pick : Dec (In x l) → Dec (Distinct l) → Dec (Distinct (x ∷ l))
+    pick (yes h) d = no (λ t. t .0 h)
+    pick (no n) (yes d) = yes (n, d)
+    pick (no n) (no m) = no (λ t. m (t .1))
+
+-- the rows below k, and all rows of P but r
+
+-- two lists, one after the other
+pub in-left : {x : ℕ} {l : List ℕ} (m : List ℕ) → In x l → In x (l ++ m)
+in-left m (at e) = at e
+in-left m (past h) = past (in-left m h)
+
+pub in-right : {x : ℕ} (l : List ℕ) {m : List ℕ} → In x m → In x (l ++ m)
+in-right [] h = h
+in-right (y ∷ l) h = past (in-right l h)
+
+pub in-either : {x : ℕ} (l : List ℕ) {m : List ℕ} → In x (l ++ m) → In x l ⊎ In x m
+in-either [] h = inr h
+in-either (y ∷ l) (at e) = inl (at e)
+in-either {x} (y ∷ l) {m} (past h) = more (in-either l h)
+  where
+    more : In x l ⊎ In x m → In x (y ∷ l) ⊎ In x m
+    more (inl i) = inl (past i)
+    more (inr i) = inr i
+
+pub distinct-join : (l m : List ℕ) → Distinct l → Distinct m → ((x : ℕ) → In x l → In x m → ⊥) → Distinct (l ++ m)
+distinct-join [] m d e n = e
+distinct-join (x ∷ l) m d e n = (λ h. ⊎-elim (d .0) (n x (at refl)) (in-either l h), distinct-join l m (d .1) e (λ y a b. n y (past a) b))
+
+pub distinct-snoc : (l : List ℕ) (c : ℕ) → Distinct l → ¬ In c l → Distinct (l ++ (c ∷ []))
+distinct-snoc l c d n = distinct-join l (c ∷ []) d (not-nil, tt) last
+  where
+    last : (x : ℕ) → In x l → In x (c ∷ []) → ⊥
+    last x i (at e) = n (rw e at i)
+    last x i (past h) = not-nil h

@@ -1,0 +1,52 @@
+-- The rows of a net: row r joins the nodes u r and v r. What a walk, a simple path and a ring are.
+use Prim.Native.Nat.{ℕ, _≤_, _<_}
+use mathlib.Core.Path.{_≡_}
+use mathlib.Core.Logic.{_⊎_, _≢_}
+use mathlib.Core.List.{List, [], _∷_}
+use lib.ListN.{length}
+use Rattle.tree.specs.Members.{Distinct}
+
+-- the rows before row k, and the rows of P other than r
+abbrev pub First : ℕ → ℕ → Type 0
+First k s = s < k
+
+abbrev pub But : (ℕ → Type 0) → ℕ → ℕ → Type 0
+But P r s = P s × (s ≢ r)
+
+module _ (u v : ℕ → ℕ) where
+  -- a is an end of row r; a and c are its two ends, either way round
+  abbrev pub End : ℕ → ℕ → Type 0
+  End r a = (u r ≡ a) ⊎ (v r ≡ a)
+
+  abbrev pub Ends : ℕ → ℕ → ℕ → Type 0
+  Ends r a c = ((u r ≡ a) × (v r ≡ c)) ⊎ ((u r ≡ c) × (v r ≡ a))
+
+  -- a walk from a to b along the rows rs, each of P, that meets the nodes ns after a
+  pub data Walk (P : ℕ → Type 0) : ℕ → List ℕ → List ℕ → ℕ → Type 0 where
+    stop : {a : ℕ} → Walk P a [] [] a
+    go : {r a c b : ℕ} {rs ns : List ℕ} → P r → Ends r a c → Walk P c rs ns b → Walk P a (r ∷ rs) (c ∷ ns) b
+
+  -- some walk joins them
+  abbrev pub Joined : (ℕ → Type 0) → ℕ → ℕ → Type 0
+  Joined P a b = (rs : List ℕ) × (ns : List ℕ) × Walk P a rs ns b
+
+  -- a path that meets no node twice
+  abbrev pub Simple : (ℕ → Type 0) → ℕ → ℕ → Type 0
+  Simple P a b = (rs : List ℕ) × (ns : List ℕ) × Walk P a rs ns b × Distinct (a ∷ ns)
+
+  -- among the first k rows is one whose ends earlier rows already join; or there is none
+  abbrev pub Closes : ℕ → Type 0
+  Closes k = (r : ℕ) × (r < k) × Joined (First r) (u r) (v r)
+
+  abbrev pub Forest : ℕ → Type 0
+  Forest k = (r : ℕ) → r < k → ¬ Joined (First r) (u r) (v r)
+
+  -- a closed walk along two or more different rows of the first k that meets no node twice before it closes
+  pub record Ring (k : ℕ) : Type 0 where
+    pub start : ℕ
+    pub rs : List ℕ
+    pub ns : List ℕ
+    pub closed : Walk (First k) start rs ns start
+    pub rows-once : Distinct rs
+    pub nodes-once : Distinct ns
+    pub two : 2 ≤ length rs

@@ -1,0 +1,6 @@
+-- What a reader must believe of this crate.
+pub mod Members
+pub mod Graph
+pub mod Path
+pub mod Count
+pub mod Rooted
