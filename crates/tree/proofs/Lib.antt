@@ -9,3 +9,10 @@ pub mod RingExactly
 pub mod Labels
 pub mod Counts
 pub mod Rooted
+pub mod Union
+pub mod Chains
+pub mod Queue
+pub mod Walked
+pub mod WalkOnly
+pub mod Above
+pub mod Grown

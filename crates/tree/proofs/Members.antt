@@ -31,8 +31,6 @@ distinct? (x ∷ l) = pick (in? x l) (distinct? l)
     pick (no n) (yes d) = yes (n, d)
     pick (no n) (no m) = no (λ t. m (t .1))
 
--- the rows below k, and all rows of P but r
-
 -- two lists, one after the other
 pub in-left : {x : ℕ} {l : List ℕ} (m : List ℕ) → In x l → In x (l ++ m)
 in-left m (at e) = at e

@@ -4,3 +4,7 @@ pub mod Graph
 pub mod Path
 pub mod Count
 pub mod Rooted
+pub mod Half
+pub mod Walked
+pub mod Work
+pub mod Grown

@@ -1,0 +1,87 @@
+-- Working statements of private functions, no part of the promises: what union by rank, the chains and the queue keep.
+use Prim.Native.Nat.{ℕ, _+_, _-_, _*_, _≤_, _<_}
+use mathlib.Core.Path.{_≡_}
+use mathlib.Core.Logic.{_⊎_, _≢_}
+use mathlib.Core.List.{List}
+use lib.ListN.{length, set}
+use Rattle.arrays.specs.Filled.{at}
+use Rattle.tree.specs.Members.{In}
+use Rattle.tree.specs.Graph.{First, Joined, Forest}
+use Rattle.tree.specs.Half.{from}
+use Rattle.tree.specs.Walked.{Reached, High, Falls}
+
+-- the ends of each row are below n
+pub record RowsFit (us vs : ℕ → ℕ) (rows : ℕ) (n : ℕ) : Type 0 where
+  pub first : (r : ℕ) → r < rows → us r < n
+  pub second : (r : ℕ) → r < rows → vs r < n
+
+-- x is its own, or climbs to t
+pub data Climb (up : List ℕ) : ℕ → ℕ → Type 0 where
+  here : {x : ℕ} → Climb up x x
+  step : {x y t : ℕ} → at up x ≡ y → Climb up y t → Climb up x t
+
+-- every climb ends: ranks rise along it, and none is more than k
+pub record Rises (up rank : List ℕ) (k : ℕ) : Type 0 where
+  pub within : (x : ℕ) → x < 4096 → at up x < 4096
+  pub rises : (x : ℕ) → x < 4096 → (at up x ≢ x) → at rank x < at rank (at up x)
+  pub most : (x : ℕ) → x < 4096 → at rank x ≤ k
+
+pub record Root (up : List ℕ) (x t : ℕ) : Type 0 where
+  pub within : t < 4096
+  pub root : at up t ≡ t
+  pub climbs : Climb up x t
+
+-- the answer: the first row whose ends are joined by the rows before it, or how many rows there are
+pub record FirstRing (us vs : ℕ → ℕ) (rows : ℕ) (r : ℕ) : Type 0 where
+  pub within : r ≤ rows
+  pub forest : Forest us vs r
+  pub closes : r < rows → Joined us vs (First r) (us r) (vs r)
+
+-- b is put above a, and only b's rank may change
+pub record Linked (a b : ℕ) (up rank up₂ rank₂ : List ℕ) : Type 0 where
+  pub put : up₂ ≡ set up a b
+  pub long : length rank₂ ≡ length rank
+  pub same : (x : ℕ) → x ≢ b → at rank₂ x ≡ at rank x
+  pub above : at rank a < at rank₂ b
+  pub grows : at rank b ≤ at rank₂ b
+  pub most : (at rank₂ b ≡ at rank b) ⊎ ((at rank₂ b ≡ at rank b + 1) × (at rank a ≡ at rank b))
+
+abbrev pub Union : ℕ → ℕ → List ℕ → List ℕ → List ℕ → List ℕ → Type 0
+Union p q up rank up₂ rank₂ = Linked p q up rank up₂ rank₂ ⊎ Linked q p up rank up₂ rank₂
+
+-- x is one more than the greatest h below k with q h ≡ v, or 0 where there is none
+pub record Last (q : ℕ → ℕ) (v k x : ℕ) : Type 0 where
+  pub below : x ≤ k
+  pub hit : 0 < x → q (x - 1) ≡ v
+  pub none : (h : ℕ) → x ≤ h → h < k → q h ≢ v
+
+-- after the half-branches below k
+pub record Chained (us vs : ℕ → ℕ) (rows : ℕ) (k : ℕ) (first next : List ℕ) : Type 0 where
+  pub within : k ≤ 2 * rows
+  pub long : (length first ≡ 4096) × (length next ≡ 8192)
+  pub firsts : (v : ℕ) → v < 4096 → Last (from us vs) v k (at first v)
+  pub nexts : (h : ℕ) → h < k → Last (from us vs) (from us vs h) h (at next h)
+
+-- m nodes are in the order
+pub record Queue (us vs : ℕ → ℕ) (rows : ℕ) (m : ℕ) (parent half order place : List ℕ) : Type 0 where
+  pub long : (length parent ≡ 4096) × (length half ≡ 4096) × (length order ≡ 4096) × (length place ≡ 4096)
+  pub free : (l : List ℕ) × (length l + m ≡ 4096) × ((v : ℕ) → v < 4096 → at parent v ≡ 4096 → In v l)
+  pub some : 0 < m
+  pub root : at order 0 ≡ 0
+  pub top : (at parent 0 ≡ 0) × (at half 0 ≡ 0)
+  pub within : (i : ℕ) → i < m → at order i < 4096
+  pub reached : (i : ℕ) → i < m → at parent (at order i) < 4096
+  pub placed : (v : ℕ) → v < 4096 → at parent v ≢ 4096 → (at place v < m) × (at order (at place v) ≡ v)
+  pub back : (i : ℕ) → i < m → at place (at order i) ≡ i
+  pub child : (i : ℕ) → 0 < i → i < m → Reached us vs rows parent half (at order i)
+  pub above : (i : ℕ) → 0 < i → i < m → (High parent order place i < i) × (at order (High parent order place i) ≡ at parent (at order i))
+  pub falls : Falls m parent half order place
+  pub blank : (v : ℕ) → v < 4096 → at parent v ≡ 4096 → (at half v ≡ 0) × (at place v ≡ 0)
+  pub rest : (i : ℕ) → m ≤ i → i < 4096 → at order i ≡ 0
+
+-- the places below head are done
+pub record Outer (us vs : ℕ → ℕ) (rows : ℕ) (head m : ℕ) (parent half order place : List ℕ) : Type 0 where
+  pub queue : Queue us vs rows m parent half order place
+  pub in-queue : head ≤ m
+  pub latest : (i : ℕ) → 0 < i → i < m → High parent order place i < head
+  pub done : (i h : ℕ) → i < head → h < 2 * rows → from us vs h ≡ at order i → at parent (from vs us h) ≢ 4096
