@@ -1,0 +1,120 @@
+-- What a table that passed has, for this crate and those above: an opened header's facts, an accepted table's facts, and how an operation that begins
+-- with `examine` hands a refusal on or goes on where there is none.
+use mathlib.Core.Path.{_≡_, ap}
+use mathlib.Core.List.{List}
+use Prim.Native.Nat.{ℕ, _+_, _*_, _≤_, _<_}
+use native.Mathlib.Omega.{arith}
+use lib.ListN.{length}
+use Rattle.table.specs.Refuse.{passed, fine}
+use Rattle.table.specs.Bytes.{byteAt}
+use Rattle.table.specs.Signed.{Within}
+use Rattle.table.specs.Header.{Header, Lettered, versionOf, nodesOf, boundOf}
+use Rattle.table.specs.Row.{rowAt, Stands}
+use Rattle.table.specs.Examine.{RowNumber, Rows, Tested}
+use Rattle.table.specs.Outcome.{Outcome, outcome, refusal, found, Opens, Examines}
+use Rattle.table.specs.declared.Row.{Row}
+use Rattle.table.specs.declared.Refusal.{Refusal}
+use Rattle.table.specs.declared.Opening.the-variants.{Opened, Refused}
+use Rattle.table.proofs.Refusals.{past, past-rows, unless-map, first-bad-map}
+
+-- what a header that is not refused has
+pub record Headed (s : List ℕ) : Type 0 where
+  pub long : 12 ≤ length s
+  pub letters : Lettered s
+  pub version : versionOf s ≡ 1
+  pub some : 1 ≤ nodesOf s
+  pub few : nodesOf s ≤ 4096
+  pub reserved : byteAt s 7 ≡ 0
+  pub size : length s ≡ 12 * nodesOf s
+
+-- what a row that is not refused has
+pub record Good (n : ℕ) (q : Row) : Type 0 where
+  pub first : q .a < n
+  pub second : q .b < n
+  pub apart : q .a ≡ q .b → ⊥
+  pub long : q .length ≤ 1000000
+  pub weight-within : Within (q .weight)
+
+-- what an accepted table has: its rows stand and are good
+pub record Accepted (s : List ℕ) (n b : ℕ) : Type 0 where
+  pub headed : Headed s
+  pub nodes : n ≡ nodesOf s
+  pub bound : b ≡ boundOf s
+  pub stands : (r : ℕ) → r + 1 < n → Stands s r
+  pub rows : (r : ℕ) → r + 1 < n → Good n (rowAt s r)
+
+module _ {A : Type 0} (refusal : ℕ → ℕ → A) {s : List ℕ} {rest : A → Type 0} {x : A} where
+  pub past-header : Headed s → rest x → Header A refusal s rest x
+  past-header h r = passed (h .long) (passed (h .letters) (passed (h .version) (passed (h .some, h .few) (passed (h .reserved) (passed (h .size) r)))))
+
+  -- an outcome that is no refusal comes of a good header
+  pub header-past : ((k r : ℕ) → (k ≡ 0 → ⊥) → refusal k r ≡ x → ⊥) → Header A refusal s rest x → Headed s × rest x
+  header-past n p =
+      let a = past (n 1 0 (λ e. omega arith)) p in
+      let b = past (n 2 0 (λ e. omega arith)) (a .1) in
+      let c = past (n 3 0 (λ e. omega arith)) (b .1) in
+      let d = past (n 4 0 (λ e. omega arith)) (c .1) in
+      let e = past (n 5 0 (λ e. omega arith)) (d .1) in
+      let f = past (n 6 0 (λ e. omega arith)) (e .1) in
+      (record { long = a .0; letters = b .0; version = c .0; some = d .0 .0; few = d .0 .1; reserved = e .0; size = f .0 }, f .1)
+
+-- a refusal of the header stays one in another type of outcome, whatever follows there
+pub header-map : {A B : Type 0} (f : A → B) (refusal : ℕ → ℕ → A) (s : List ℕ) {rest : A → Type 0} {rest′ : B → Type 0} {x : A}
+    → (1 ≤ nodesOf s → rest x → rest′ (f x)) → Header A refusal s rest x → Header B (λ k r. f (refusal k r)) s rest′ (f x)
+header-map f refusal s g p = unless-map f (λ _. unless-map f (λ _. unless-map f (λ _. unless-map f (λ h. unless-map f (λ _. unless-map f (λ _. g (h .0))))))) p
+
+pub tested-map : {A B : Type 0} (f : A → B) (refusal : ℕ → ℕ → A) (s : List ℕ) {rest : A → Type 0} {rest′ : B → Type 0} {x : A}
+    → (1 ≤ nodesOf s → rest x → rest′ (f x)) → Tested A refusal s rest x → Tested B (λ k r. f (refusal k r)) s rest′ (f x)
+tested-map f refusal s g p = header-map f refusal s (λ h. first-bad-map f (λ _. g h)) p
+
+-- what is found is no refusal
+not-refused : {n b k r : ℕ} → (k ≡ 0 → ⊥) → refusal k r ≡ found n b → ⊥
+not-refused n e = n (ap (λ (o : Outcome). o .number) e)
+
+-- a refusal finds nothing: its node count is 0
+nothing-found : (s : List ℕ) {k r : ℕ} → 1 ≤ nodesOf s → refusal k r ≡ found (nodesOf s) (boundOf s) → ⊥
+nothing-found s h e = omega (arith, ap (λ (o : Outcome). o .nodes) e)
+
+pub opened : (s : List ℕ) (n b : ℕ) → Opens s (outcome (Opened n b)) → Headed s × (n ≡ nodesOf s) × (b ≡ boundOf s)
+opened s n b p =
+    let h = header-past refusal (λ k r. not-refused) p in
+    (h .0, ap (λ (o : Outcome). o .nodes) (h .1), ap (λ (o : Outcome). o .bound) (h .1))
+
+-- a refused opening is a refused examination, and an opened table is examined row by row
+pub refused-stays : (s : List ℕ) (w : Refusal) → Opens s (outcome (Refused w)) → Examines s (outcome (Refused w))
+refused-stays s w p = header-map (λ o. o) refusal s (λ h e. absurd (nothing-found s h e)) p
+
+pub opened-goes : (s : List ℕ) (n b : ℕ) (o : Outcome) → Opens s (outcome (Opened n b)) → Rows Outcome refusal s n (λ x. x ≡ found n b) o → Examines s o
+opened-goes s n b o p q = let h = opened s n b p in past-header refusal {s = s} (h .0) (rw (h .1, h .2) at q)
+
+-- what a row numbered 0 has
+pub good : (n : ℕ) (q : Row) → RowNumber n q 0 → Good n q
+good n q p =
+    let a = past (λ e. omega (arith, e)) p in
+    let b = past (λ e. omega (arith, e)) (a .1) in
+    let c = past (λ e. omega (arith, e)) (b .1) in
+    let d = past (λ e. omega (arith, e)) (c .1) in
+    record { first = a .0 .0; second = a .0 .1; apart = b .0; long = c .0; weight-within = d .0 }
+
+pub accepted : (s : List ℕ) (n b : ℕ) → Examines s (outcome (Opened n b)) → Accepted s n b
+accepted s n b p =
+    let h = header-past refusal (λ k r. not-refused) p in
+    let q = past-rows (λ k r. not-refused) (h .1) in
+    let e : n ≡ nodesOf s = ap (λ (o : Outcome). o .nodes) (q .1) in
+    record {
+      headed = h .0;
+      nodes = e;
+      bound = ap (λ (o : Outcome). o .bound) (q .1);
+      stands = λ r l. omega (arith, h .0 .size);
+      rows = λ r l. rw e (good (nodesOf s) (rowAt s r) (q .0 r (omega arith)));
+    }
+
+-- how an operation that begins with `examine` hands a refusal on
+pub refused-on : {A : Type 0} (refuse : ℕ → ℕ → A) {rest : A → Type 0} (s : List ℕ) (w : Refusal) → Examines s (outcome (Refused w)) → Tested A refuse s rest (refuse (w .number) (w .row))
+refused-on refuse s w p = tested-map (λ o. refuse (o .number) (o .row)) refusal s (λ h e. absurd (nothing-found s h e)) p
+
+-- and goes on where there is none
+pub passed-on : {A : Type 0} (refuse : ℕ → ℕ → A) {rest : A → Type 0} (s : List ℕ) (n b : ℕ) {x : A} → Examines s (outcome (Opened n b)) → rest x → Tested A refuse s rest x
+passed-on refuse s n b p r =
+    let h = header-past refusal (λ k r. not-refused) p in
+    past-header refuse {s = s} (h .0) (fine (past-rows (λ k r. not-refused) (h .1) .0) r)

@@ -1,0 +1,6 @@
+-- Laws of the table, by topic. Crates above cite Refusals, Accepted, Only, Lift and nothing else of this crate.
+pub mod Refusals
+pub mod Lift
+pub mod Bits
+pub mod Accepted
+pub mod Only

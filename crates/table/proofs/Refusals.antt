@@ -1,0 +1,51 @@
+-- Laws of the forms of refusal: each allows one outcome where its rest does; an outcome that is not the refusal has passed; and a refusal stays one
+-- when the outcome's type changes, by a function that takes refusals to refusals.
+use mathlib.Core.Path.{_≡_, refl}
+use Prim.Native.Nat.{ℕ, _<_}
+use native.Mathlib.Decide.{decLt}
+use native.Mathlib.Omega.{arith}
+use Rattle.table.specs.Refuse.{Unless, refused, passed, FirstBad, bad, fine, Only}
+
+module _ {A : Type 0} {no : A} {Ok : Type 0} {rest : A → Type 0} where
+  pub unless-only : Only rest → Only (Unless A no Ok rest)
+  unless-only o x y (refused c) (refused d) = refl
+  unless-only o x y (refused c) (passed n q) = absurd (c n)
+  unless-only o x y (passed n p) (refused c) = absurd (c n)
+  unless-only o x y (passed n p) (passed m q) = o x y p q
+
+  -- an outcome that differs from the refusal has passed
+  pub past : {x : A} → (no ≡ x → ⊥) → Unless A no Ok rest x → Ok × rest x
+  past n (refused c) = absurd (n refl)
+  past n (passed k p) = (k, p)
+
+  -- one that cannot be as the rest says is the refusal
+  pub is-refused : {x : A} → (Ok → rest x → ⊥) → Unless A no Ok rest x → (Ok → ⊥) × (no ≡ x)
+  is-refused n (refused c) = (c, refl)
+  is-refused n (passed k p) = absurd (n k p)
+
+pub unless-map : {A B : Type 0} (f : A → B) {no : A} {Ok : Type 0} {rest : A → Type 0} {rest′ : B → Type 0} {x : A}
+    → (Ok → rest x → rest′ (f x)) → Unless A no Ok rest x → Unless B (f no) Ok rest′ (f x)
+unless-map f g (refused c) = refused c
+unless-map f g (passed k p) = passed k (g k p)
+
+module _ {A : Type 0} {refusal : ℕ → ℕ → A} {m : ℕ} {Number : ℕ → ℕ → Type 0} {rest : A → Type 0} where
+  pub first-bad-only : ((i : ℕ) → Only (Number i)) → Only rest → Only (FirstBad A refusal m Number rest)
+  first-bad-only one o x y (bad r k l before is not) (bad r′ k′ l′ before′ is′ not′) = pick (decLt r r′) (decLt r′ r)
+    where
+      pick : Dec (r < r′) → Dec (r′ < r) → refusal k r ≡ refusal k′ r′
+      pick (yes h) e = absurd (not (one r k 0 is (before′ r h)))
+      pick (no h) (yes g) = absurd (not′ (one r′ k′ 0 is′ (before r′ g)))
+      pick (no h) (no g) = let e : r ≡ r′ = omega arith in let f : k ≡ k′ = one r k k′ is (rw e is′) in cc
+  first-bad-only one o x y (bad r k l before is not) (fine all p) = absurd (not (one r k 0 is (all r l)))
+  first-bad-only one o x y (fine all p) (bad r k l before is not) = absurd (not (one r k 0 is (all r l)))
+  first-bad-only one o x y (fine all p) (fine all′ q) = o x y p q
+
+  -- an outcome that is no refusal comes of good rows alone
+  pub past-rows : {x : A} → ((k r : ℕ) → (k ≡ 0 → ⊥) → refusal k r ≡ x → ⊥) → FirstBad A refusal m Number rest x → ((i : ℕ) → i < m → Number i 0) × rest x
+  past-rows n (bad r k l before is not) = absurd (n k r not refl)
+  past-rows n (fine all p) = (all, p)
+
+pub first-bad-map : {A B : Type 0} (f : A → B) {refusal : ℕ → ℕ → A} {m : ℕ} {Number : ℕ → ℕ → Type 0} {rest : A → Type 0} {rest′ : B → Type 0} {x : A}
+    → (((i : ℕ) → i < m → Number i 0) → rest x → rest′ (f x)) → FirstBad A refusal m Number rest x → FirstBad B (λ k r. f (refusal k r)) m Number rest′ (f x)
+first-bad-map f g (bad r k l before is not) = bad r k l before is not
+first-bad-map f g (fine all p) = fine all (g all p)
