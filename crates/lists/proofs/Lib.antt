@@ -1,0 +1,5 @@
+-- Laws of this crate, by topic; Merged, Copied and Order serve the crates above.
+pub mod Merging
+pub mod Copying
+pub mod Order
+pub mod Joining

@@ -1,0 +1,52 @@
+-- Working statements of the private functions of `join` (offer, prefer, advance, try_pair), and no part of the promises.
+use Prim.Native.Nat.{ℕ, _+_, _^_, _≤_, _<_}
+use mathlib.Core.Path.{_≡_}
+use mathlib.Core.Logic.{_⊎_}
+use mathlib.Core.List.{List}
+use Rattle.arrays.specs.Filled.{at}
+use Rattle.lists.specs.Runs.{In, Nodes}
+use Rattle.lists.specs.Pairs.{Le, Small, pair}
+use Rattle.lists.specs.declared.across.Best.{Best}
+
+-- r is the better of two
+pub record Offered (old new r : Best) : Type 0 where
+  pub keeps : Le old r
+  pub beats : Le new r
+  pub comes : (r ≡ old) ⊎ (r ≡ new)
+
+-- partners of one place: q is at least as good as p
+pub record Better (name d w : List ℕ) (p q : ℕ) : Type 0 where
+  pub weight : at w p ≤ at w q
+  pub near : at w q ≤ at w p → at d q ≤ at d p
+  pub node : at w q ≤ at w p → at d p ≤ at d q → at name q ≤ at name p
+
+-- r is the better partner of two, the old one counting where one was passed
+pub record Preferred (name d w : List ℕ) (m j old new r : ℕ) : Type 0 where
+  pub keeps : m < j → Better name d w old r
+  pub beats : Better name d w new r
+  pub comes : (r ≡ new) ⊎ ((m < j) × (r ≡ old))
+
+pub record Walkable (d down : List ℕ) (m e key : ℕ) : Type 0 where
+  pub within : e ≤ 4096
+  pub nodes : Nodes down m e
+  pub keys : Small d
+  pub here : key < 2 ^ 62
+
+-- the run is passed from m to j, and node is the best partner there
+pub record Sofar (name d w down : List ℕ) (m e j node : ℕ) : Type 0 where
+  pub low : m ≤ j
+  pub high : j ≤ e
+  pub small : node < 4096
+  pub there : m < j → In down m j node
+  pub best : (p : ℕ) → m ≤ p → p < j → Better name d w (at down p) node
+
+-- from j to j′ all is within the limit, and the next is not
+pub record Advanced (d down : List ℕ) (e key limit j j′ : ℕ) : Type 0 where
+  pub low : j ≤ j′
+  pub within : (p : ℕ) → j ≤ p → p < j′ → key + at d (at down p) ≤ limit
+  pub stop : j′ < e → limit < key + at d (at down j′)
+
+-- the pair of x and y was offered, where a partner was passed
+pub record Tried (name ku wu d w : List ℕ) (m j x y : ℕ) (old new : Best) : Type 0 where
+  pub offered : m < j → Offered old (pair name ku wu d w x y) new
+  pub none : j ≤ m → new ≡ old
