@@ -12,6 +12,7 @@ use Rattle.tree.specs.Members.{In}
 use Rattle.tree.specs.Half.{from}
 use Rattle.tree.specs.Walked.{Reached, High}
 use Rattle.tree.specs.Work.{RowsFit, Last, Chained, Queue, Outer}
+use Rattle.tree.proofs.Chains.{from-fits, flip-fit}
 use Rattle.tree.proofs.Counts.{upto, upto-length, upto-in, Without, without}
 
 -- and of the node p at head the half-branches from y on
@@ -291,8 +292,6 @@ queue-one us vs rows parent half order place f g k o = record {
 
 -- What the loop of `visit` keeps, at the half-branch x - 1
 pub record Going (us vs : ℕ → ℕ) (rows : ℕ) (first next : List ℕ) (head p x m : ℕ) (parent half order place : List ℕ) : Type 0 where
-  pub fit : RowsFit us vs rows 4096
-  pub few : rows < 4096
   pub chains : Chained us vs rows (2 * rows) first next
   pub node : p < 4096
   pub low : x ≤ 2 * rows
@@ -300,11 +299,11 @@ pub record Going (us vs : ℕ → ℕ) (rows : ℕ) (first next : List ℕ) (hea
   pub inner : Inner us vs rows head p x m parent half order place
 
 module _ (us vs : ℕ → ℕ) (rows : ℕ) (first next : List ℕ) (head m : ℕ) (parent half order place : List ℕ) where
-  pub going-start : (p x : ℕ) → RowsFit us vs rows 4096 → rows < 4096 → Chained us vs rows (2 * rows) first next → head < m → Outer us vs rows head m parent half order place → p ≡ at order head → x ≡ at first p → Going us vs rows first next head p x m parent half order place
-  going-start p x f few c b o e d =
+  pub going-start : (p x : ℕ) → Chained us vs rows (2 * rows) first next → head < m → Outer us vs rows head m parent half order place → p ≡ at order head → x ≡ at first p → Going us vs rows first next head p x m parent half order place
+  going-start p x c b o e d =
       let pb : p < 4096 = rw e (o .queue .within head b) in
       let l : Last (from us vs) p (2 * rows) x = rw d (c .firsts p pb) in
-      record { fit = f; few = few; chains = c; node = pb; low = l .below; hit = l .hit; inner = inner-skip us vs rows parent half order place head m p _ (inner-start us vs rows parent half order place head m p e b o) x l }
+      record { chains = c; node = pb; low = l .below; hit = l .hit; inner = inner-skip us vs rows parent half order place head m p _ (inner-start us vs rows parent half order place head m p e b o) x l }
 
   module _ (p x : ℕ) (g : Going us vs rows first next head p x m parent half order place) (z : 0 < x) where
     same : x ≡ x - 1 + 1
@@ -316,10 +315,13 @@ module _ (us vs : ℕ → ℕ) (rows : ℕ) (first next : List ℕ) (head m : �
     next-last : (y : ℕ) → y ≡ at next (x - 1) → Last (from us vs) p (x - 1) y
     next-last y e = rw e (rw (g .hit z) at (g .chains .nexts (x - 1) fits))
 
+    pub leads-place : {c : ℕ} → RowsFit us vs rows 4096 → c ≡ from vs us (x - 1) → c < 4096
+    leads-place f e = rw e (from-fits vs us (x - 1) (flip-fit f) fits)
+
     pub going-keep : (c y : ℕ) → c ≡ from vs us (x - 1) → at parent c ≢ 4096 → y ≡ at next (x - 1) → Going us vs rows first next head p y m parent half order place
     going-keep c y e n d =
         let l = next-last y d in
-        record { fit = g .fit; few = g .few; chains = g .chains; node = g .node; low = omega (arith, l .below, g .low); hit = l .hit; inner = inner-skip us vs rows parent half order place head m p _ (inner-keep us vs rows parent half order place head m p x (g .inner) (x - 1) same (rw e at n)) y l }
+        record { chains = g .chains; node = g .node; low = omega (arith, l .below, g .low); hit = l .hit; inner = inner-skip us vs rows parent half order place head m p _ (inner-keep us vs rows parent half order place head m p x (g .inner) (x - 1) same (rw e at n)) y l }
 
     pub going-room : (c : ℕ) → c ≡ from vs us (x - 1) → c < 4096 → at parent c ≡ 4096 → m < 4096
     going-room c e b n = room us vs rows parent half order place head m p x (g .inner) (x - 1) c same fits (g .hit z) e b n
@@ -327,4 +329,4 @@ module _ (us vs : ℕ → ℕ) (rows : ℕ) (first next : List ℕ) (head m : �
     pub going-push : (c y : ℕ) → c ≡ from vs us (x - 1) → c < 4096 → at parent c ≡ 4096 → y ≡ at next (x - 1) → Going us vs rows first next head p y (m + 1) (set parent c p) (set half c (x - 1)) (set order m c) (set place c m)
     going-push c y e b n d =
         let l = next-last y d in
-        record { fit = g .fit; few = g .few; chains = g .chains; node = g .node; low = omega (arith, l .below, g .low); hit = l .hit; inner = inner-skip us vs rows _ _ _ _ head _ p _ (inner-push us vs rows parent half order place head m p x (g .inner) (x - 1) c same fits (g .hit z) e b n) y l }
+        record { chains = g .chains; node = g .node; low = omega (arith, l .below, g .low); hit = l .hit; inner = inner-skip us vs rows _ _ _ _ head _ p _ (inner-push us vs rows parent half order place head m p x (g .inner) (x - 1) c same fits (g .hit z) e b n) y l }

@@ -10,7 +10,7 @@ use lib.ListN.{length, set, length-set}
 use lib.Seq.{getD-set-same, getD-set-other}
 use Rattle.arrays.specs.Filled.{at}
 use Rattle.tree.specs.Graph.{First, But, End, Walk, stop, go, Joined, Forest}
-use Rattle.tree.specs.Work.{RowsFit, Climb, here, step, Rises, Root, FirstRing, Linked, Union}
+use Rattle.tree.specs.Work.{RowsFit, Climb, here, step, Rises, Root, FirstRing, Linked, Linkable, Numbered, Union}
 use Rattle.tree.proofs.Joined.{joined-refl, joined-step, joined-trans, joined-sym, joined-mono}
 use Rattle.tree.proofs.Bridge.{Cut, walk-cut}
 
@@ -191,3 +191,14 @@ module _ (us vs : ℕ → ℕ) (rows : ℕ) (up rank : List ℕ) (r p q : ℕ) (
   pub seen-more : (up₂ rank₂ : List ℕ) → Union p q up rank up₂ rank₂ → Seen us vs rows (r + 1) up₂ rank₂
   seen-more up₂ rank₂ (inl l) = seen-link us vs rows up rank r p q s (f .within) (g .within) n (f .root) (g .root) up₂ rank₂ b l over (apart us vs rows up rank r p q s fit b f g n) ends₁
   seen-more up₂ rank₂ (inr l) = seen-link us vs rows up rank r q p s (g .within) (f .within) (λ e. n (sym e)) (g .root) (f .root) up₂ rank₂ b l (joined-sym _ _ over) (apart us vs rows up rank r p q s fit b f g n) (λ e h. swap (ends₁ e h))
+
+-- numbering the places, from the front
+pub numbered-none : (l : List ℕ) → length l ≡ 4096 → Numbered 0 l
+numbered-none l e = record { long = e; each = λ k h. absurd (omega arith) }
+
+pub numbered-more : (i : ℕ) (l : List ℕ) → i < 4096 → Numbered i l → Numbered (i + 1) (set l i i)
+numbered-more i l b n = record { long = length-set l i i ∙ n .long; each = λ k h. pick k h (ℕ-discrete k i) }
+  where
+    pick : (k : ℕ) → k < i + 1 → Dec (k ≡ i) → at (set l i i) k ≡ k
+    pick k h (yes e) = rw e (getD-set-same l i i 0 (omega (arith, n .long)))
+    pick k h (no m) = getD-set-other l i k i 0 m ∙ n .each k (omega arith)

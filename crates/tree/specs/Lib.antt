@@ -4,6 +4,7 @@ pub mod Graph
 pub mod Path
 pub mod Count
 pub mod Rooted
+pub mod Net
 pub mod Half
 pub mod Walked
 pub mod Work

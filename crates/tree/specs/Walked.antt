@@ -22,7 +22,7 @@ abbrev pub Falls : ℕ → List ℕ → List ℕ → List ℕ → List ℕ → T
 Falls m parent half order place = (i j : ℕ) → 0 < i → i < j → j < m → (High parent order place i ≤ High parent order place j) × (High parent order place i ≡ High parent order place j → at half (at order j) < at half (at order i))
 
 -- rows below `rows` join us r and vs r; m nodes are joined to node 0, each is in the order once, parents before children
-pub record Walked (us vs : ℕ → ℕ) (rows : ℕ) (m : ℕ) (parent half order place : List ℕ) : Type 0 where
+pub record Walked (us vs : ℕ → ℕ) (rows m : ℕ) (parent half order place : List ℕ) : Type 0 where
   pub long : (length parent ≡ 4096) × (length half ≡ 4096) × (length order ≡ 4096) × (length place ≡ 4096)
   pub some : (0 < m) × (m ≤ 4096)
   pub root : at order 0 ≡ 0

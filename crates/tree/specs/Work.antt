@@ -5,15 +5,23 @@ use mathlib.Core.Logic.{_⊎_, _≢_}
 use mathlib.Core.List.{List}
 use lib.ListN.{length, set}
 use Rattle.arrays.specs.Filled.{at}
+use Rattle.table.specs.Row.{Stands}
 use Rattle.tree.specs.Members.{In}
 use Rattle.tree.specs.Graph.{First, Joined, Forest}
+use Rattle.tree.specs.Net.{firstEnd, secondEnd}
 use Rattle.tree.specs.Half.{from}
 use Rattle.tree.specs.Walked.{Reached, High, Falls}
 
 -- the ends of each row are below n
-pub record RowsFit (us vs : ℕ → ℕ) (rows : ℕ) (n : ℕ) : Type 0 where
+pub record RowsFit (us vs : ℕ → ℕ) (rows n : ℕ) : Type 0 where
   pub first : (r : ℕ) → r < rows → us r < n
   pub second : (r : ℕ) → r < rows → vs r < n
+
+-- what the code that reads rows asks: the rows stand in the table, and their ends are places of the arrays
+pub record Readable (s : List ℕ) (rows : ℕ) : Type 0 where
+  pub few : rows < 4096
+  pub stands : (r : ℕ) → r < rows → Stands s r
+  pub fit : RowsFit (firstEnd s) (secondEnd s) rows 4096
 
 -- x is its own, or climbs to t
 pub data Climb (up : List ℕ) : ℕ → ℕ → Type 0 where
@@ -26,13 +34,14 @@ pub record Rises (up rank : List ℕ) (k : ℕ) : Type 0 where
   pub rises : (x : ℕ) → x < 4096 → (at up x ≢ x) → at rank x < at rank (at up x)
   pub most : (x : ℕ) → x < 4096 → at rank x ≤ k
 
+-- t is the root of x
 pub record Root (up : List ℕ) (x t : ℕ) : Type 0 where
   pub within : t < 4096
   pub root : at up t ≡ t
   pub climbs : Climb up x t
 
 -- the answer: the first row whose ends are joined by the rows before it, or how many rows there are
-pub record FirstRing (us vs : ℕ → ℕ) (rows : ℕ) (r : ℕ) : Type 0 where
+pub record FirstRing (us vs : ℕ → ℕ) (rows r : ℕ) : Type 0 where
   pub within : r ≤ rows
   pub forest : Forest us vs r
   pub closes : r < rows → Joined us vs (First r) (us r) (vs r)
@@ -56,14 +65,14 @@ pub record Last (q : ℕ → ℕ) (v k x : ℕ) : Type 0 where
   pub none : (h : ℕ) → x ≤ h → h < k → q h ≢ v
 
 -- after the half-branches below k
-pub record Chained (us vs : ℕ → ℕ) (rows : ℕ) (k : ℕ) (first next : List ℕ) : Type 0 where
+pub record Chained (us vs : ℕ → ℕ) (rows k : ℕ) (first next : List ℕ) : Type 0 where
   pub within : k ≤ 2 * rows
   pub long : (length first ≡ 4096) × (length next ≡ 8192)
   pub firsts : (v : ℕ) → v < 4096 → Last (from us vs) v k (at first v)
   pub nexts : (h : ℕ) → h < k → Last (from us vs) (from us vs h) h (at next h)
 
 -- m nodes are in the order
-pub record Queue (us vs : ℕ → ℕ) (rows : ℕ) (m : ℕ) (parent half order place : List ℕ) : Type 0 where
+pub record Queue (us vs : ℕ → ℕ) (rows m : ℕ) (parent half order place : List ℕ) : Type 0 where
   pub long : (length parent ≡ 4096) × (length half ≡ 4096) × (length order ≡ 4096) × (length place ≡ 4096)
   pub free : (l : List ℕ) × (length l + m ≡ 4096) × ((v : ℕ) → v < 4096 → at parent v ≡ 4096 → In v l)
   pub some : 0 < m
@@ -80,8 +89,29 @@ pub record Queue (us vs : ℕ → ℕ) (rows : ℕ) (m : ℕ) (parent half order
   pub rest : (i : ℕ) → m ≤ i → i < 4096 → at order i ≡ 0
 
 -- the places below head are done
-pub record Outer (us vs : ℕ → ℕ) (rows : ℕ) (head m : ℕ) (parent half order place : List ℕ) : Type 0 where
+pub record Outer (us vs : ℕ → ℕ) (rows head m : ℕ) (parent half order place : List ℕ) : Type 0 where
   pub queue : Queue us vs rows m parent half order place
   pub in-queue : head ≤ m
   pub latest : (i : ℕ) → 0 < i → i < m → High parent order place i < head
   pub done : (i h : ℕ) → i < head → h < 2 * rows → from us vs h ≡ at order i → at parent (from vs us h) ≢ 4096
+
+-- each of the first i of 4,096 places holds its own number
+pub record Numbered (i : ℕ) (l : List ℕ) : Type 0 where
+  pub long : length l ≡ 4096
+  pub each : (k : ℕ) → k < i → at l k ≡ k
+
+-- what linking two roots asks
+pub record Linkable (p q : ℕ) (rank : List ℕ) : Type 0 where
+  pub one : p < 4096
+  pub two : q < 4096
+  pub apart : p ≢ q
+  pub long : length rank ≡ 4096
+  pub one-low : at rank p ≤ 4096
+  pub two-low : at rank q ≤ 4096
+
+-- what a visit of the node at the place head asks
+pub record Visits (s : List ℕ) (rows : ℕ) (first next : List ℕ) (head tail : ℕ) (parent half order place : List ℕ) : Type 0 where
+  pub readable : Readable s rows
+  pub chains : Chained (firstEnd s) (secondEnd s) rows (2 * rows) first next
+  pub ahead : head < tail
+  pub outer : Outer (firstEnd s) (secondEnd s) rows head tail parent half order place

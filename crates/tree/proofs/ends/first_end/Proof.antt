@@ -1,0 +1,26 @@
+-- `first_end` meets its contract: the row that is read is the net's.
+use Prim.Native.Nat.{ℕ, _+_, _-_, _≤_, _<_}
+use mathlib.Core.Path.{_≡_, refl, sym, ap, _∙_}
+use mathlib.Core.Logic.{⊎-elim, inl, inr}
+use native.Mathlib.Omega.{arith}
+use lib.ListN.{length, getD, set}
+use Rattle.tree.proofs.Net.{reads-first}
+use borrow.Author.Needs.{needs}
+use Rattle.tree.proofs.ends.first_end.Statement.{statement}
+use Rattle.tree.proofs.ends.first_end.Tie as tie
+use Rattle.tree.proofs.ends.first_end.Reads as reads
+use Rattle.tree.proofs.ends.first_end.Lts as lts
+use Rattle.arrays.proofs.wide.Reads as wide-reads
+use Rattle.table.proofs.row_at.Reads as row-at-reads
+
+row-at-requires : tie.Need-row-at-requires
+row-at-requires c κs = search needs
+
+wide-requires : tie.Need-wide-requires
+wide-requires c κs = search needs
+
+returns : tie.Need-returns
+returns c = c .wide .ensures .0 ∙ reads-first (c .before .before .before .pre) (c .before .row-at .ensures)
+
+pub first-end-spec : {M : Type 1} → statement M
+first-end-spec = tie.close (tie.spec row-at-requires wide-requires returns)

@@ -1,0 +1,98 @@
+-- `chains` meets its contract: the half-branches below h are chained.
+use Prim.Native.Nat.{ℕ, _+_, _*_, _-_, _≤_, _<_}
+use mathlib.Core.Path.{_≡_, refl, sym, ap, _∙_}
+use mathlib.Core.Logic.{⊎-elim, inl, inr}
+use native.Mathlib.Omega.{arith}
+use lib.ListN.{length, getD, set}
+use Rattle.tree.specs.Net.{firstEnd, secondEnd}
+use Rattle.tree.specs.Work.{Readable, Chained}
+use Rattle.tree.proofs.Chains.{from-fits, chained-none, chained-more, chained-all}
+use borrow.Author.Needs.{needs}
+use Rattle.tree.proofs.reach.chains.Statement.{statement}
+use Rattle.tree.proofs.reach.chains.Tie as tie
+use Rattle.tree.proofs.reach.chains.Reads as reads
+use Rattle.tree.proofs.reach.chains.Lts as lts
+use Rattle.arrays.proofs.fill.Reads as fill-reads
+use Rattle.arrays.proofs.fill_wide.Reads as fill-wide-reads
+use Rattle.tree.proofs.reach.leaves.Reads as leaves-reads
+
+abbrev Inv-loop : tie.InvT-loop
+Inv-loop s rows first₀ next₀ end h₀ first next h = Chained (firstEnd s) (secondEnd s) rows h first next × Readable s rows × (end ≡ 2 * rows)
+
+abbrev μ-loop : tie.MeasureT-loop
+μ-loop s rows first₀ next₀ end h₀ first next h = end - h
+
+fill-requires : tie.Need-fill-requires Inv-loop μ-loop
+fill-requires c κs = search needs
+
+fill-wide-requires : tie.Need-fill-wide-requires Inv-loop μ-loop
+fill-wide-requires c κs = search needs
+
+mul-end : tie.Need-mul-end Inv-loop μ-loop
+mul-end c = omega arith
+
+loop-holds : tie.Need-loop-holds Inv-loop μ-loop
+loop-holds c = (chained-none _ _ _ _ _ (c .before .before .fill .ensures .long) (c .fill-wide .ensures .long) (c .before .before .fill .ensures .each), c .before .before .before .before .before .pre, refl)
+
+leaves-requires : tie.Need-leaves-requires Inv-loop μ-loop
+leaves-requires c κs = c .before .loop .inv .1 .stands _ (omega arith)
+
+mul-next : tie.Need-mul-next Inv-loop μ-loop
+mul-next c = let b : c .leaves .result < 4096 = rw (c .leaves .ensures) (from-fits _ _ _ (c .before .before .loop .inv .1 .fit) (omega arith)) in omega arith
+
+element-copy-out-next : tie.Need-element-copy-out-next Inv-loop μ-loop
+element-copy-out-next c = rw (c .leaves .ensures) (from-fits _ _ _ (c .before .before .loop .inv .1 .fit) (omega arith))
+
+mul-next-2 : tie.Need-mul-next-2 Inv-loop μ-loop
+mul-next-2 c = omega arith
+
+element-write-next : tie.Need-element-write-next Inv-loop μ-loop
+element-write-next c = omega arith
+
+add-first : tie.Need-add-first Inv-loop μ-loop
+add-first c = omega arith
+
+cast-first : tie.Need-cast-first Inv-loop μ-loop
+cast-first c = omega arith
+
+mul-first : tie.Need-mul-first Inv-loop μ-loop
+mul-first c = let b : c .before .leaves .result < 4096 = rw (c .before .leaves .ensures) (from-fits _ _ _ (c .before .before .before .loop .inv .1 .fit) (omega arith)) in omega arith
+
+element-write-first : tie.Need-element-write-first Inv-loop μ-loop
+element-write-first c = let b : c .before .leaves .result < 4096 = rw (c .before .leaves .ensures) (from-fits _ _ _ (c .before .before .before .loop .inv .1 .fit) (omega arith)) in omega arith
+
+add-h : tie.Need-add-h Inv-loop μ-loop
+add-h c = omega arith
+
+loop-less : tie.Need-loop-less Inv-loop μ-loop
+loop-less c = omega arith
+
+loop-again : tie.Need-loop-again Inv-loop μ-loop
+loop-again c = let h = c .before .before .before .loop .inv in (chained-more _ _ _ _ _ _ _ (h .1 .fit) (h .1 .few) (omega arith) (c .before .leaves .ensures) (h .0), h .1, h .2)
+
+returns : tie.Need-returns Inv-loop μ-loop
+returns c = let h = c .before .loop .inv in chained-all _ _ _ _ _ _ (h .0) (omega arith)
+
+pub chains-spec : {M : Type 1} → statement M
+chains-spec =
+    tie.close
+    (tie.spec
+    Inv-loop
+    μ-loop
+    fill-requires
+    fill-wide-requires
+    mul-end
+    loop-holds
+    leaves-requires
+    mul-next
+    element-copy-out-next
+    mul-next-2
+    element-write-next
+    add-first
+    cast-first
+    mul-first
+    element-write-first
+    add-h
+    loop-less
+    loop-again
+    returns)

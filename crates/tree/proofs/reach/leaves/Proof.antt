@@ -1,0 +1,29 @@
+-- `leaves` meets its contract: an even half-branch leaves the first end of its row, an odd one the second.
+use Prim.Native.Nat.{ℕ, _+_, _-_, _≤_, _<_}
+use mathlib.Core.Path.{_≡_, refl, sym, ap, _∙_}
+use mathlib.Core.Logic.{⊎-elim, inl, inr}
+use native.Mathlib.Omega.{arith}
+use lib.ListN.{length, getD, set}
+use Rattle.tree.proofs.Chains.{from-even, from-odd}
+use borrow.Author.Needs.{needs}
+use Rattle.tree.proofs.reach.leaves.Statement.{statement}
+use Rattle.tree.proofs.reach.leaves.Tie as tie
+use Rattle.tree.proofs.reach.leaves.Reads as reads
+use Rattle.tree.proofs.reach.leaves.Lts as lts
+use Rattle.tree.proofs.ends.first_end.Reads as first-end-reads
+use Rattle.tree.proofs.ends.second_end.Reads as second-end-reads
+
+first-end-requires : tie.Need-first-end-requires
+first-end-requires c κs = search needs
+
+returns : tie.Need-returns
+returns c = c .first-end .ensures ∙ sym (from-even _ _ _ (c .before .if1 .taken))
+
+second-end-requires : tie.Need-second-end-requires
+second-end-requires c κs = search needs
+
+returns-2 : tie.Need-returns-2
+returns-2 c = c .second-end .ensures ∙ sym (from-odd _ _ _ (c .before .if1 .left))
+
+pub leaves-spec : {M : Type 1} → statement M
+leaves-spec = tie.close (tie.spec first-end-requires returns second-end-requires returns-2)

@@ -1,0 +1,75 @@
+-- `reach` meets its contract: the places before head are done, and where head meets tail all nodes joined to node 0 are in the order.
+use Prim.Native.Nat.{ℕ, _+_, _*_, _-_, _≤_, _<_}
+use mathlib.Core.Path.{_≡_, refl, sym, ap, _∙_}
+use mathlib.Core.Logic.{⊎-elim, inl, inr}
+use native.Mathlib.Omega.{arith}
+use lib.ListN.{length, getD, set}
+use Rattle.tree.specs.Net.{firstEnd, secondEnd}
+use Rattle.tree.specs.Work.{Readable, Chained, Outer}
+use Rattle.tree.proofs.Queue.{queue-one}
+use Rattle.tree.proofs.Walked.{walked}
+use borrow.Author.Needs.{needs}
+use Rattle.tree.proofs.reach.reach.Statement.{statement}
+use Rattle.tree.proofs.reach.reach.Tie as tie
+use Rattle.tree.proofs.reach.reach.Reads as reads
+use Rattle.tree.proofs.reach.reach.Lts as lts
+use Rattle.arrays.proofs.fill.Reads as fill-reads
+use Rattle.tree.proofs.reach.visit.Reads as visit-reads
+
+abbrev Inv-loop : tie.InvT-loop
+Inv-loop s rows first next parent₀ half₀ order₀ place₀ head₀ tail₀ parent half order place head tail =
+    Outer (firstEnd s) (secondEnd s) rows head tail parent half order place × Readable s rows × Chained (firstEnd s) (secondEnd s) rows (2 * rows) first next
+
+abbrev μ-loop : tie.MeasureT-loop
+μ-loop s rows first next parent₀ half₀ order₀ place₀ head₀ tail₀ parent half order place head tail = 4096 - head
+
+fill-requires : tie.Need-fill-requires Inv-loop μ-loop
+fill-requires c κs = tt
+
+fill-requires-2 : tie.Need-fill-requires-2 Inv-loop μ-loop
+fill-requires-2 c κs = tt
+
+fill-requires-3 : tie.Need-fill-requires-3 Inv-loop μ-loop
+fill-requires-3 c κs = tt
+
+fill-requires-4 : tie.Need-fill-requires-4 Inv-loop μ-loop
+fill-requires-4 c κs = tt
+
+element-write-parent : tie.Need-element-write-parent Inv-loop μ-loop
+element-write-parent c = omega arith
+
+loop-holds : tie.Need-loop-holds Inv-loop μ-loop
+loop-holds c = (queue-one _ _ _ _ _ _ _ (c .before .before .before .before .before .before .fill .ensures) (c .before .before .before .before .fill2 .ensures) (c .before .before .fill3 .ensures) (c .fill4 .ensures), c .before .before .before .before .before .before .before .before .before .pre .0, c .before .before .before .before .before .before .before .before .before .pre .1)
+
+visit-requires : tie.Need-visit-requires Inv-loop μ-loop
+visit-requires c κs = let h = c .before .before .before .before .before .loop .inv in record { readable = h .1; chains = h .2; ahead = c .before .before .before .before .loop-test .taken; outer = h .0 }
+
+add-head : tie.Need-add-head Inv-loop μ-loop
+add-head c = omega arith
+
+loop-less : tie.Need-loop-less Inv-loop μ-loop
+loop-less c = omega arith
+
+loop-again : tie.Need-loop-again Inv-loop μ-loop
+loop-again c = let h = c .before .before .before .before .before .before .loop .inv in (c .visit .ensures, h .1, h .2)
+
+returns : tie.Need-returns Inv-loop μ-loop
+returns c = let h = c .before .loop .inv in walked _ _ _ _ _ _ _ _ _ (h .1 .fit) (h .0) (c .loop-test .left)
+
+pub reach-spec : {M : Type 1} → statement M
+reach-spec =
+    tie.close
+    (tie.spec
+    Inv-loop
+    μ-loop
+    fill-requires
+    fill-requires-2
+    fill-requires-3
+    fill-requires-4
+    element-write-parent
+    loop-holds
+    visit-requires
+    add-head
+    loop-less
+    loop-again
+    returns)

@@ -1,0 +1,33 @@
+-- The net that a table holds: the two ends of each row, its length and its weight. And what an accepted net has.
+use Prim.Native.Nat.{ℕ, _-_, _≤_, _<_}
+use mathlib.Core.Logic.{_≢_}
+use mathlib.Core.List.{List}
+use lib.IntN.{ℤ}
+use Rattle.table.specs.Row.{Stands, rowAt}
+use Rattle.table.specs.Signed.{Within}
+use Rattle.tree.specs.Graph.{First, Joined, Forest}
+
+unfoldable pub firstEnd : List ℕ → ℕ → ℕ
+firstEnd s r = rowAt s r .a
+
+unfoldable pub secondEnd : List ℕ → ℕ → ℕ
+secondEnd s r = rowAt s r .b
+
+unfoldable pub lengthOf : List ℕ → ℕ → ℕ
+lengthOf s r = rowAt s r .length
+
+unfoldable pub weightOf : List ℕ → ℕ → ℤ
+weightOf s r = rowAt s r .weight
+
+-- an accepted net of n nodes: n − 1 good rows, no ring, and every node joined to node 0
+pub record Net (s : List ℕ) (n : ℕ) : Type 0 where
+  pub some : 1 ≤ n
+  pub few : n ≤ 4096
+  pub stands : (r : ℕ) → r < n - 1 → Stands s r
+  pub first : (r : ℕ) → r < n - 1 → firstEnd s r < n
+  pub second : (r : ℕ) → r < n - 1 → secondEnd s r < n
+  pub apart : (r : ℕ) → r < n - 1 → firstEnd s r ≢ secondEnd s r
+  pub short : (r : ℕ) → r < n - 1 → lengthOf s r ≤ 1000000
+  pub within : (r : ℕ) → r < n - 1 → Within (weightOf s r)
+  pub forest : Forest (firstEnd s) (secondEnd s) (n - 1)
+  pub joined : (x : ℕ) → x < n → Joined (firstEnd s) (secondEnd s) (First (n - 1)) 0 x
