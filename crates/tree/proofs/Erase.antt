@@ -2,7 +2,7 @@
 use Prim.Native.Nat.{ℕ}
 use mathlib.Core.List.{List, [], _∷_}
 use Rattle.tree.specs.Members.{In, at, past, Distinct}
-use Rattle.tree.specs.Graph.{Ends, Walk, stop, go, Joined, Simple}
+use Rattle.tree.specs.Graph.{Walk, stop, go, Joined, Simple}
 use Rattle.tree.proofs.Members.{in?, not-nil}
 
 module _ (u v : ℕ → ℕ) where

@@ -1,7 +1,7 @@
 -- In a forest there is one simple path between two nodes, at the most: where two first differ, both go on without the row they differ in, so its ends are joined without it.
-use Prim.Native.Nat.{ℕ, zero, suc, _+_, _≤_, _<_}
+use Prim.Native.Nat.{ℕ}
 use mathlib.Core.Path.{_≡_, refl, sym}
-use mathlib.Core.Logic.{_⊎_, inl, inr, _≢_}
+use mathlib.Core.Logic.{inl, inr}
 use mathlib.Core.List.{List, _∷_}
 use native.Mathlib.Decide.{ℕ-discrete}
 use Rattle.tree.specs.Members.{In, at, past, Distinct}

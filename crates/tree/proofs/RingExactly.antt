@@ -1,8 +1,8 @@
 -- A ring is in the first k rows exactly if one of them has ends that earlier rows join. From a ring: drop its first row, and the bridge.
 -- To a ring: a simple path between the ends, and the row.
-use Prim.Native.Nat.{ℕ, zero, suc, _+_, _≤_, _<_}
-use mathlib.Core.Path.{_≡_, refl, sym}
-use mathlib.Core.Logic.{_⊎_, inl, inr, _≢_}
+use Prim.Native.Nat.{ℕ, _≤_, _<_}
+use mathlib.Core.Path.{refl, sym}
+use mathlib.Core.Logic.{inr, _≢_}
 use mathlib.Core.List.{List, _∷_}
 use native.Mathlib.Omega.{arith}
 use native.Mathlib.Nat.{not-suc-le-zero}

@@ -1,16 +1,14 @@
 -- The walk's promise allows one outcome, where the rows are a forest: parents and half-branches are the tree's own, and the order is fixed since parents' places never fall
 -- along it and under one parent the half-branches fall.
-use Prim.Native.Nat.{ℕ, zero, suc, _+_, _*_, _/_, _≤_, _<_}
+use Prim.Native.Nat.{ℕ, zero, suc, _/_, _≤_, _<_}
 use mathlib.Core.Path.{_≡_, refl, sym, ap, _∙_}
 use mathlib.Core.Logic.{_⊎_, inl, inr, _≢_}
 use mathlib.Core.List.{List}
 use native.Mathlib.Omega.{arith}
 use native.Mathlib.Decide.{ℕ-discrete, decLt}
-use lib.ListN.{length}
 use lib.Seq.{ext-getD}
 use Rattle.arrays.specs.Filled.{at}
 use Rattle.tree.specs.Graph.{First, But, End, Ends, Joined, Closes, Forest}
-use Rattle.tree.specs.Half.{from}
 use Rattle.tree.specs.Walked.{Reached, High, Walked}
 use Rattle.tree.proofs.Rows.{ends-flip, ends-one, other}
 use Rattle.tree.proofs.Joined.{joined-refl, joined-step, joined-trans, joined-sym}

@@ -1,13 +1,12 @@
 -- Where the queue has run empty, exactly the nodes joined to node 0 are in the order.
-use Prim.Native.Nat.{ℕ, zero, suc, _+_, _*_, _/_, _≤_, _<_}
-use mathlib.Core.Path.{_≡_, refl, sym, ap, _∙_}
-use mathlib.Core.Logic.{_⊎_, inl, inr, _≢_}
+use Prim.Native.Nat.{ℕ, zero, suc, _/_, _≤_, _<_}
+use mathlib.Core.Path.{_≡_, sym, _∙_}
+use mathlib.Core.Logic.{_≢_}
 use mathlib.Core.List.{List}
 use native.Mathlib.Omega.{arith}
 use native.Mathlib.Decide.{ℕ-discrete}
 use Rattle.arrays.specs.Filled.{at}
 use Rattle.tree.specs.Graph.{First, Walk, stop, go, Joined}
-use Rattle.tree.specs.Half.{from}
 use Rattle.tree.specs.Walked.{High, Walked}
 use Rattle.tree.specs.Work.{RowsFit, Queue, Outer}
 use Rattle.tree.proofs.Joined.{joined-refl, joined-step, joined-trans}

@@ -50,7 +50,12 @@ fn link(up: &mut [u16; 4096], rank: &mut [u16; 4096], p: usize, q: usize)
 }
 
 // The first row whose ends the rows before it join, or the number of rows.
-pub(crate) fn first_ring(s: &[u8], rows: usize, up: &mut [u16; 4096], rank: &mut [u16; 4096]) -> usize
+pub(crate) fn first_ring(
+    s: &[u8],
+    rows: usize,
+    up: &mut [u16; 4096],
+    rank: &mut [u16; 4096],
+) -> usize
     requires { ⌜ Readable (now s) rows ⌝ }
     ensures { λ r. ⌜ FirstRing (firstEnd (now (s .entry))) (secondEnd (now (s .entry))) rows r ⌝ }
 {

@@ -1,17 +1,9 @@
 -- `first_end` meets its contract: the row that is read is the net's.
-use Prim.Native.Nat.{ℕ, _+_, _-_, _≤_, _<_}
-use mathlib.Core.Path.{_≡_, refl, sym, ap, _∙_}
-use mathlib.Core.Logic.{⊎-elim, inl, inr}
-use native.Mathlib.Omega.{arith}
-use lib.ListN.{length, getD, set}
+use mathlib.Core.Path.{_∙_}
 use Rattle.tree.proofs.Net.{reads-first}
 use borrow.Author.Needs.{needs}
 use Rattle.tree.proofs.ends.first_end.Statement.{statement}
 use Rattle.tree.proofs.ends.first_end.Tie as tie
-use Rattle.tree.proofs.ends.first_end.Reads as reads
-use Rattle.tree.proofs.ends.first_end.Lts as lts
-use Rattle.arrays.proofs.wide.Reads as wide-reads
-use Rattle.table.proofs.row_at.Reads as row-at-reads
 
 row-at-requires : tie.Need-row-at-requires
 row-at-requires c κs = search needs

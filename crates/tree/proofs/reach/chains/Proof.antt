@@ -1,20 +1,13 @@
 -- `chains` meets its contract: the half-branches below h are chained.
-use Prim.Native.Nat.{ℕ, _+_, _*_, _-_, _≤_, _<_}
-use mathlib.Core.Path.{_≡_, refl, sym, ap, _∙_}
-use mathlib.Core.Logic.{⊎-elim, inl, inr}
+use Prim.Native.Nat.{_*_, _-_, _<_}
+use mathlib.Core.Path.{_≡_, refl}
 use native.Mathlib.Omega.{arith}
-use lib.ListN.{length, getD, set}
 use Rattle.tree.specs.Net.{firstEnd, secondEnd}
 use Rattle.tree.specs.Work.{Readable, Chained}
 use Rattle.tree.proofs.Chains.{from-fits, chained-none, chained-more, chained-all}
 use borrow.Author.Needs.{needs}
 use Rattle.tree.proofs.reach.chains.Statement.{statement}
 use Rattle.tree.proofs.reach.chains.Tie as tie
-use Rattle.tree.proofs.reach.chains.Reads as reads
-use Rattle.tree.proofs.reach.chains.Lts as lts
-use Rattle.arrays.proofs.fill.Reads as fill-reads
-use Rattle.arrays.proofs.fill_wide.Reads as fill-wide-reads
-use Rattle.tree.proofs.reach.leaves.Reads as leaves-reads
 
 abbrev Inv-loop : tie.InvT-loop
 Inv-loop s rows first₀ next₀ end h₀ first next h = Chained (firstEnd s) (secondEnd s) rows h first next × Readable s rows × (end ≡ 2 * rows)

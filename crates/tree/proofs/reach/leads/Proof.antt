@@ -1,17 +1,9 @@
 -- `leads` meets its contract: an even half-branch leads to the second end of its row, an odd one to the first.
-use Prim.Native.Nat.{ℕ, _+_, _-_, _≤_, _<_}
-use mathlib.Core.Path.{_≡_, refl, sym, ap, _∙_}
-use mathlib.Core.Logic.{⊎-elim, inl, inr}
-use native.Mathlib.Omega.{arith}
-use lib.ListN.{length, getD, set}
+use mathlib.Core.Path.{sym, _∙_}
 use Rattle.tree.proofs.Chains.{from-even, from-odd}
 use borrow.Author.Needs.{needs}
 use Rattle.tree.proofs.reach.leads.Statement.{statement}
 use Rattle.tree.proofs.reach.leads.Tie as tie
-use Rattle.tree.proofs.reach.leads.Reads as reads
-use Rattle.tree.proofs.reach.leads.Lts as lts
-use Rattle.tree.proofs.ends.first_end.Reads as first-end-reads
-use Rattle.tree.proofs.ends.second_end.Reads as second-end-reads
 
 second-end-requires : tie.Need-second-end-requires
 second-end-requires c κs = search needs

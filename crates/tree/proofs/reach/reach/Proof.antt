@@ -1,20 +1,12 @@
 -- `reach` meets its contract: the places before head are done, and where head meets tail all nodes joined to node 0 are in the order.
-use Prim.Native.Nat.{ℕ, _+_, _*_, _-_, _≤_, _<_}
-use mathlib.Core.Path.{_≡_, refl, sym, ap, _∙_}
-use mathlib.Core.Logic.{⊎-elim, inl, inr}
+use Prim.Native.Nat.{_*_, _-_}
 use native.Mathlib.Omega.{arith}
-use lib.ListN.{length, getD, set}
 use Rattle.tree.specs.Net.{firstEnd, secondEnd}
 use Rattle.tree.specs.Work.{Readable, Chained, Outer}
 use Rattle.tree.proofs.Queue.{queue-one}
 use Rattle.tree.proofs.Walked.{walked}
-use borrow.Author.Needs.{needs}
 use Rattle.tree.proofs.reach.reach.Statement.{statement}
 use Rattle.tree.proofs.reach.reach.Tie as tie
-use Rattle.tree.proofs.reach.reach.Reads as reads
-use Rattle.tree.proofs.reach.reach.Lts as lts
-use Rattle.arrays.proofs.fill.Reads as fill-reads
-use Rattle.tree.proofs.reach.visit.Reads as visit-reads
 
 abbrev Inv-loop : tie.InvT-loop
 Inv-loop s rows first next parent₀ half₀ order₀ place₀ head₀ tail₀ parent half order place head tail =

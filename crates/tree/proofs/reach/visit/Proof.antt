@@ -1,19 +1,13 @@
 -- `visit` meets its contract: of the half-branches that leave the node at the head, those from x on are done.
-use Prim.Native.Nat.{ℕ, _+_, _-_, _≤_, _<_}
-use mathlib.Core.Path.{_≡_, refl, sym, ap, _∙_}
-use mathlib.Core.Logic.{⊎-elim, inl, inr}
+use Prim.Native.Nat.{_-_}
+use mathlib.Core.Logic.{⊎-elim}
 use native.Mathlib.Omega.{arith}
-use lib.ListN.{length, getD, set}
 use Rattle.tree.specs.Net.{firstEnd, secondEnd}
 use Rattle.tree.specs.Work.{Readable}
 use Rattle.tree.proofs.Queue.{Going, going-start, going-keep, going-room, going-push, inner-end, leads-place}
 use borrow.Author.Needs.{needs}
 use Rattle.tree.proofs.reach.visit.Statement.{statement}
 use Rattle.tree.proofs.reach.visit.Tie as tie
-use Rattle.tree.proofs.reach.visit.Reads as reads
-use Rattle.tree.proofs.reach.visit.Lts as lts
-use Rattle.arrays.proofs.wide.Reads as wide-reads
-use Rattle.tree.proofs.reach.leads.Reads as leads-reads
 
 abbrev Inv-loop : tie.InvT-loop
 Inv-loop s rows first next parent₀ half₀ order₀ place₀ head tail p m₀ x₀ parent half order place m x =
@@ -110,11 +104,13 @@ loop-again : tie.Need-loop-again Inv-loop μ-loop
 loop-again c =
     let g = c .before .before .before .before .before .before .loop .inv .0 in
     let z = c .before .before .before .before .before .loop-test .taken in
-    let e = c .before .before .before .before .leads .ensures in
-    (⊎-elim
-    (λ w. rw (w .1, w .2, w .3, w .4, w .5) (going-push _ _ _ _ _ _ _ _ _ _ _ _ _ g z _ _ e (leads-place _ _ _ _ _ _ _ _ _ _ _ _ _ g z (c .before .before .before .before .before .before .loop .inv .1 .fit) e) (w .0 .taken) (c .wide3 .ensures .0)))
-    (λ w. rw (w .1, w .2, w .3, w .4, w .5) (going-keep _ _ _ _ _ _ _ _ _ _ _ _ _ g z _ _ e (w .0 .left) (c .wide3 .ensures .0)))
-    (c .before .before .if1 .came), c .before .before .before .before .before .before .loop .inv .1)
+    let e = c .before .before .before .before .leads .ensures in (
+      ⊎-elim
+          (λ w. rw (w .1, w .2, w .3, w .4, w .5) (going-push _ _ _ _ _ _ _ _ _ _ _ _ _ g z _ _ e (leads-place _ _ _ _ _ _ _ _ _ _ _ _ _ g z (c .before .before .before .before .before .before .loop .inv .1 .fit) e) (w .0 .taken) (c .wide3 .ensures .0)))
+          (λ w. rw (w .1, w .2, w .3, w .4, w .5) (going-keep _ _ _ _ _ _ _ _ _ _ _ _ _ g z _ _ e (w .0 .left) (c .wide3 .ensures .0)))
+          (c .before .before .if1 .came),
+      c .before .before .before .before .before .before .loop .inv .1,
+    )
 
 returns : tie.Need-returns Inv-loop μ-loop
 returns c = inner-end _ _ _ _ _ _ _ _ _ _ _ (c .before .loop .inv .0 .inner) (omega arith)

@@ -1,18 +1,13 @@
 -- `find` meets its contract: t is on the climb from x, and its rank rises with each step.
-use Prim.Native.Nat.{ℕ, _+_, _-_, _≤_, _<_}
-use mathlib.Core.Path.{_≡_, refl, sym, ap, _∙_}
-use mathlib.Core.Logic.{⊎-elim, inl, inr}
+use Prim.Native.Nat.{_-_, _<_}
+use mathlib.Core.Path.{sym, _∙_}
 use native.Mathlib.Omega.{arith}
-use lib.ListN.{length, getD, set}
 use Rattle.arrays.specs.Filled.{at}
-use Rattle.tree.specs.Work.{Climb, here, Rises, Root}
+use Rattle.tree.specs.Work.{Climb, here, Rises}
 use Rattle.tree.proofs.Union.{climb-more}
 use borrow.Author.Needs.{needs}
 use Rattle.tree.proofs.ring.find.Statement.{statement}
 use Rattle.tree.proofs.ring.find.Tie as tie
-use Rattle.tree.proofs.ring.find.Reads as reads
-use Rattle.tree.proofs.ring.find.Lts as lts
-use Rattle.arrays.proofs.wide.Reads as wide-reads
 
 abbrev Inv-loop : tie.InvT-loop
 Inv-loop up rank x t₀ t = (t < 4096) × Climb up x t × Rises up rank 4096

@@ -1,23 +1,12 @@
 -- `first_ring` meets its contract: the rows before r have been seen, and closed no ring.
-use Prim.Native.Nat.{ℕ, _+_, _-_, _≤_, _<_}
-use mathlib.Core.Path.{_≡_, refl, sym, ap, _∙_}
-use mathlib.Core.Logic.{⊎-elim, inl, inr}
+use Prim.Native.Nat.{_-_}
 use native.Mathlib.Omega.{arith}
-use lib.ListN.{length, getD, set}
 use Rattle.tree.specs.Net.{firstEnd, secondEnd}
 use Rattle.tree.specs.Work.{Readable}
 use Rattle.tree.proofs.Union.{Seen, seen-none, seen-more, seen-ring, rises-more}
 use borrow.Author.Needs.{needs}
 use Rattle.tree.proofs.ring.first_ring.Statement.{statement}
 use Rattle.tree.proofs.ring.first_ring.Tie as tie
-use Rattle.tree.proofs.ring.first_ring.Reads as reads
-use Rattle.tree.proofs.ring.first_ring.Lts as lts
-use Rattle.arrays.proofs.fill.Reads as fill-reads
-use Rattle.tree.proofs.ends.first_end.Reads as first-end-reads
-use Rattle.tree.proofs.ends.second_end.Reads as second-end-reads
-use Rattle.tree.proofs.ring.find.Reads as find-reads
-use Rattle.tree.proofs.ring.link.Reads as link-reads
-use Rattle.tree.proofs.ring.number.Reads as number-reads
 
 abbrev Inv-loop : tie.InvT-loop
 Inv-loop s rows up₀ rank₀ r₀ up rank r = Seen (firstEnd s) (secondEnd s) rows r up rank × Readable s rows

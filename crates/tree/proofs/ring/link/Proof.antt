@@ -1,15 +1,10 @@
 -- `link` meets its contract: the root of lower rank goes below; where both are equal, the other's rank grows.
-use Prim.Native.Nat.{ℕ, _+_, _-_, _≤_, _<_}
-use mathlib.Core.Path.{_≡_, refl, sym, ap, _∙_}
-use mathlib.Core.Logic.{⊎-elim, inl, inr}
+use mathlib.Core.Logic.{inl, inr}
 use native.Mathlib.Omega.{arith}
-use lib.ListN.{length, getD, set}
 use Rattle.tree.proofs.Union.{put-low, put-equal}
 use borrow.Author.Needs.{needs}
 use Rattle.tree.proofs.ring.link.Statement.{statement}
 use Rattle.tree.proofs.ring.link.Tie as tie
-use Rattle.tree.proofs.ring.link.Reads as reads
-use Rattle.tree.proofs.ring.link.Lts as lts
 
 mul-a : tie.Need-mul-a
 mul-a c = search needs

@@ -1,17 +1,12 @@
 -- `number` meets its contract: the places below i are numbered.
-use Prim.Native.Nat.{ℕ, _+_, _-_, _≤_, _<_}
-use mathlib.Core.Path.{_≡_, refl, sym, ap, _∙_}
-use mathlib.Core.Logic.{⊎-elim, inl, inr}
+use Prim.Native.Nat.{_-_, _≤_}
+use mathlib.Core.Path.{_≡_}
 use native.Mathlib.Omega.{arith}
-use lib.ListN.{length, getD, set}
 use Rattle.tree.specs.Work.{Numbered}
 use Rattle.tree.proofs.Union.{numbered-none, numbered-more}
 use borrow.Author.Needs.{needs}
 use Rattle.tree.proofs.ring.number.Statement.{statement}
 use Rattle.tree.proofs.ring.number.Tie as tie
-use Rattle.tree.proofs.ring.number.Reads as reads
-use Rattle.tree.proofs.ring.number.Lts as lts
-use Rattle.arrays.proofs.fill.Reads as fill-reads
 
 abbrev Inv-loop : tie.InvT-loop
 Inv-loop up₀ i₀ up i = (i ≤ 4096) × Numbered i up
