@@ -1,0 +1,38 @@
+-- Calls over a caller's bytes are a run of pages: the two nodes read out of the last row written are that row's.
+use Prim.Native.Nat.{ℕ, _+_, _-_, _*_, _/_, _≤_, _<_}
+use mathlib.Core.Path.{_≡_, refl, ap}
+use mathlib.Core.List.{List, [], _∷_, _++_}
+use native.Mathlib.Omega.{arith}
+use lib.ListN.{length, getD, drop, length-append, take-append-drop}
+use Rattle.table.specs.Bytes.{u16At}
+use Rattle.pages.specs.Listing.{Entry, In, at}
+use Rattle.pages.specs.Page.{Run, ends, goes}
+use Rattle.pages.specs.Bytes.{row}
+use Rattle.pages.specs.Calls.{Paged, Calls, done, again}
+use Rattle.pages.proofs.Members.{in-left, in-right}
+use Rattle.pages.proofs.Pages.{page-full, snoc}
+use Rattle.pages.proofs.Rows.{row-nodes, last-row}
+
+module _ {P : Entry → Type 0} (small : (e : Entry) → P e → (e .low < 65536) × (e .high < 65536)) where
+  pub calls-run : {s t : ℕ} {joined : List Entry} → Calls P s t joined → Run P s t joined
+  calls-run (done {old} h c) = ends {room = length old / 16} (omega arith) (c .page)
+  calls-run (again {s} {t} {given} {left} {old} {now} {later} h c z r) =
+      let w = snoc (c .some) (omega (arith, page-full {room = length old / 16} z (c .page))) in
+      goes {room = length old / 16} (w .0) (w .1) (omega arith) (c .page) z (w .2) (rw (first-is (w .0) (w .1) (w .2), second-is (w .0) (w .1) (w .2)) at (calls-run r))
+    where
+      last-in : (front : List Entry) (e : Entry) → c .some ≡ front ++ e ∷ [] → P e
+      last-in front e q =
+          let m : In e (c .some) = rw q (in-right front (at refl)) in
+          let k : In e (c .page .rows) = rw (c .page .fit, take-append-drop (length old / 16) (c .page .rows)) at (in-left (drop (length old / 16) (c .page .rows)) m) in
+          c .page .all .sound e k .0
+
+      byte : (front : List Entry) (e : Entry) → c .some ≡ front ++ e ∷ [] → (i j : ℕ) → i ≡ 16 * (given - 1) + j → j < 16 → getD now i 0 ≡ getD (row e) j 0
+      byte front e q i j x b = rw (c .bytes, q, x) (last-row front e (drop (16 * given) old) (given - 1) j (omega (arith, c .count, ap length q, length-append front (e ∷ []))) b)
+
+      first-is : (front : List Entry) (e : Entry) → c .some ≡ front ++ e ∷ [] → u16At now (16 * (given - 1)) ≡ e .low
+      first-is front e q =
+          rw (byte front e q (16 * (given - 1)) 0 (omega arith) (omega arith), byte front e q (16 * (given - 1) + 1) 1 refl (omega arith), row-nodes e .0, row-nodes e .1) (omega (arith, small e (last-in front e q) .0))
+
+      second-is : (front : List Entry) (e : Entry) → c .some ≡ front ++ e ∷ [] → u16At now (16 * (given - 1) + 2) ≡ e .high
+      second-is front e q =
+          rw (byte front e q (16 * (given - 1) + 2) 2 refl (omega arith), byte front e q (16 * (given - 1) + 2 + 1) 3 (omega arith) (omega arith), row-nodes e .2, row-nodes e .3) (omega (arith, small e (last-in front e q) .1))

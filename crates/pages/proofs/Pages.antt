@@ -1,0 +1,114 @@
+-- Pages: one at the most; what follows a row of the list is what stands after it, so that a run of pages joins up to the whole; whatever the rooms, the pages come to an end.
+use Prim.Native.Nat.{ℕ, zero, suc, _+_, _≤_, _<_}
+use mathlib.Core.Path.{_≡_, refl, sym, ap, _∙_}
+use mathlib.Core.Logic.{_⊎_, inl, inr}
+use mathlib.Core.List.{List, [], _∷_, _++_}
+use native.Mathlib.Omega.{arith}
+use native.Mathlib.Decide.{decLt}
+use lib.ListN.{length, take, drop, take-append-drop, length-drop, length-take}
+use lib.Seq.{take-all}
+use Rattle.pages.specs.Listing.{Entry, Before, In, at, Listing}
+use Rattle.pages.specs.Page.{Following, Page, Run, ends, goes}
+use Rattle.pages.proofs.Order.{after-trans, after-self, after-both, after-start}
+use Rattle.pages.proofs.Members.{in-one, in-left, in-right, in-split}
+use Rattle.pages.proofs.Rising.{rising-right, rising-left, rising-across}
+use Rattle.pages.proofs.Listings.{listing-only, listing-iff}
+
+-- what follows a row of the list is what stands after it
+module _ {P : Entry → Type 0} {s t : ℕ} (front : List Entry) (e : Entry) (back : List Entry) (w : Listing (Following P s t) ((front ++ e ∷ []) ++ back)) where
+  e-in : In e ((front ++ e ∷ []) ++ back)
+  e-in = in-left back (in-right front (at refl))
+
+  listing-back : Listing (Following P (e .low) (e .high)) back
+  listing-back = record {
+    rising = rising-right (front ++ e ∷ []) (w .rising);
+    sound = λ x h. (w .sound x (in-right (front ++ e ∷ []) h) .0, rising-across (front ++ e ∷ []) back (w .rising) (in-right front (at refl)) h);
+    complete = λ x p. pick x (p .1) (in-split (front ++ e ∷ []) back (w .complete x (p .0, after-trans (w .sound e e-in .1) (p .1))));
+  }
+    where
+      upto : (x : Entry) → Before e x → In x front ⊎ In x (e ∷ []) → ⊥
+      upto x b (inl h) = after-both b (rising-across front (e ∷ []) (rising-left (front ++ e ∷ []) back (w .rising)) h (at refl))
+      upto x b (inr h) = after-self (rw (in-one h) at b)
+
+      pick : (x : Entry) → Before e x → In x (front ++ e ∷ []) ⊎ In x back → In x back
+      pick x b (inl h) = absurd (upto x b (in-split front (e ∷ []) h))
+      pick x b (inr h) = h
+
+module _ {P : Entry → Type 0} where
+  page-next : {s t room left : ℕ} {given : List Entry} (front : List Entry) (e : Entry) (p : Page P s t room given left) → given ≡ front ++ e ∷ []
+      → Listing (Following P (e .low) (e .high)) (drop room (p .rows))
+  page-next {s} {t} {room} {given} front e p q = listing-back {s = s} {t = t} front e (drop room (p .rows)) (rw (sym q, p .fit, take-append-drop room (p .rows)) (p .all))
+
+  page-whole : {s t room : ℕ} {given : List Entry} (p : Page P s t room given 0) → given ≡ p .rows
+  page-whole {room} {given} p = p .fit ∙ take-all room (p .rows) (omega (arith, ap length (p .fit), length-take room (p .rows), p .rest))
+
+  -- A page's rows and what the run gives after them are all that follows its start
+  pub run-listing : {s t : ℕ} {joined : List Entry} → Run P s t joined → Listing (Following P s t) joined
+  run-listing (ends k p) = rw (page-whole p) (p .all)
+  run-listing (goes {room} {given} {later} front e k p z q r) = rw (joined (listing-only (page-next front e p q) (run-listing r))) (p .all)
+    where
+      joined : drop room (p .rows) ≡ later → given ++ later ≡ p .rows
+      joined h = rw (p .fit, ← h) (take-append-drop room (p .rows))
+
+  -- where the lower node stands first, all that qualifies follows (0, 0)
+  pub whole-follows : {l : List Entry} → ((e : Entry) → P e → e .low < e .high) → Listing (Following P 0 0) l → Listing P l
+  whole-follows f = listing-iff (λ e p. p .0) (λ e p. (p, after-start e (f e p)))
+
+  -- given and left together are what follows the start
+  pub page-count : {s t room left : ℕ} {given whole : List Entry} → Page P s t room given left → Listing (Following P s t) whole → length given + left ≡ length whole
+  page-count p w = p .rest ∙ ap length (listing-only (p .all) w)
+
+  -- where some are left, the page is full: the next start is there, and the next page begins with fewer to give
+  pub page-full : {s t room left : ℕ} {given : List Entry} → 0 < left → Page P s t room given left → length given ≡ room
+  page-full {room} {left} {given} z p = omega (arith, ap length (p .fit), length-take room (p .rows), p .rest)
+
+  next-left : {s t room room₂ left left₂ : ℕ} {given given₂ : List Entry} (front : List Entry) (e : Entry) → Page P s t room given left → 0 < left → given ≡ front ++ e ∷ []
+      → Page P (e .low) (e .high) room₂ given₂ left₂ → length given₂ + left₂ ≡ left
+  next-left {room} front e p z q p₂ = omega (arith, page-count p₂ (page-next front e p q), length-drop room (p .rows), ap length (p .fit), length-take room (p .rows), p .rest)
+
+  pub page-only : {s t room left left₂ : ℕ} {given given₂ : List Entry} → Page P s t room given left → Page P s t room given₂ left₂ → (given ≡ given₂) × (left ≡ left₂)
+  page-only {room} {given} {given₂} p q = (rows, omega (arith, ap length rows, p .rest, q .rest, ap length (listing-only (p .all) (q .all))))
+    where
+      rows : given ≡ given₂
+      rows = p .fit ∙ ap (take room) (listing-only (p .all) (q .all)) ∙ sym (q .fit)
+
+-- the same entries qualify: the same page
+pub page-iff : {P Q : Entry → Type 0} {s t room left : ℕ} {given : List Entry} → ((e : Entry) → P e → Q e) → ((e : Entry) → Q e → P e) → Page P s t room given left → Page Q s t room given left
+page-iff f g p = record { rows = p .rows; all = listing-iff (λ e h. (f e (h .0), h .1)) (λ e h. (g e (h .0), h .1)) (p .all); fit = p .fit; rest = p .rest }
+
+-- a list that is not empty has a last row
+pub snoc : (l : List Entry) → 0 < length l → (front : List Entry) × (e : Entry) × (l ≡ front ++ e ∷ [])
+snoc [] h = absurd (omega arith)
+snoc (x ∷ []) h = ([], x, refl)
+snoc (x ∷ (y ∷ l)) h = let t = snoc (y ∷ l) (omega arith) in (x ∷ t .0, t .1, ap (λ m. x ∷ m) (t .2))
+
+-- the answer to a page asked for
+pub record Asked (P : Entry → Type 0) (s t room : ℕ) : Type 0 where
+  pub given : List Entry
+  pub left : ℕ
+  pub page : Page P s t room given left
+
+-- Where every page asked for is given, pages of any rooms come to an end: each begins with fewer to give than the one before
+module _ {P : Entry → Type 0} (rooms : ℕ → ℕ) (some : (i : ℕ) → 1 ≤ rooms i) (ask : (s t room : ℕ) → 1 ≤ room → Asked P s t room) where
+  from : (k i s t : ℕ) (a : Asked P s t (rooms i)) → a .left ≤ k → (joined : List Entry) × Run P s t joined
+  from zero i s t a h = let z : a .left ≡ 0 = omega arith in (a .given, ends (some i) (rw z at (a .page)))
+  from (suc k) i s t a h = pick (decLt 0 (a .left)) (from k (i + 1))
+    where
+      pick : Dec (0 < a .left) → ((s t : ℕ) (a : Asked P s t (rooms (i + 1))) → a .left ≤ k → (joined : List Entry) × Run P s t joined) → (joined : List Entry) × Run P s t joined
+      pick (no n) ih = let z : a .left ≡ 0 = omega arith in (a .given, ends (some i) (rw z at (a .page)))
+      pick (yes z) ih =
+          let g = snoc (a .given) (omega (arith, page-full z (a .page), some i)) in
+          let b = ask (g .1 .low) (g .1 .high) (rooms (i + 1)) (some (i + 1)) in
+          let f : 0 < b .left → length (b .given) ≡ rooms (i + 1) = λ y. page-full y (b .page) in
+          let r = ih _ _ b (less b f (next-left (g .0) (g .1) (a .page) z (g .2) (b .page))) in
+          (a .given ++ r .0, goes (g .0) (g .1) (some i) (a .page) z (g .2) (r .1))
+        where
+          less : {s t : ℕ} (b : Asked P s t (rooms (i + 1))) → (0 < b .left → length (b .given) ≡ rooms (i + 1)) → length (b .given) + b .left ≡ a .left → b .left ≤ k
+          less b f e = side (decLt 0 (b .left))
+            where
+              side : Dec (0 < b .left) → b .left ≤ k
+              side (yes y) = omega (arith, f y, some (i + 1))
+              side (no y) = omega arith
+
+  pub run-exists : (s t : ℕ) → (joined : List Entry) × Run P s t joined
+  run-exists s t = let a = ask s t (rooms 0) (some 0) in from (a .left) 0 s t a (omega arith)

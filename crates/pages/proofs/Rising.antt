@@ -1,0 +1,55 @@
+-- Rising lists: their parts, two joined, and that the same members make the same list.
+use mathlib.Core.Path.{_≡_, refl, sym, _∙_}
+use mathlib.Core.Logic.{_⊎_, inl, inr}
+use mathlib.Core.List.{List, [], _∷_, _++_}
+use Rattle.pages.specs.Listing.{Entry, Before, In, at, past, Rising, none, more}
+use Rattle.pages.proofs.Order.{after-self, after-both}
+use Rattle.pages.proofs.Members.{not-nil, in-cases, in-left, in-right, in-split}
+
+pub rising-head : {x : Entry} {l : List Entry} → Rising (x ∷ l) → (y : Entry) → In y l → Before x y
+rising-head (more f r) = f
+
+rising-tail : {x : Entry} {l : List Entry} → Rising (x ∷ l) → Rising l
+rising-tail (more f r) = r
+
+pub rising-right : (l : List Entry) {m : List Entry} → Rising (l ++ m) → Rising m
+rising-right [] r = r
+rising-right (x ∷ l) r = rising-right l (rising-tail r)
+
+pub rising-left : (l m : List Entry) → Rising (l ++ m) → Rising l
+rising-left [] m r = none
+rising-left (x ∷ l) m r = more (λ y h. rising-head r y (in-left m h)) (rising-left l m (rising-tail r))
+
+pub rising-across : {x y : Entry} (l m : List Entry) → Rising (l ++ m) → In x l → In y m → Before x y
+rising-across (z ∷ l) m r (at e) k = rw e (rising-head r _ (in-right l k))
+rising-across (z ∷ l) m r (past h) k = rising-across l m (rising-tail r) h k
+
+pub rising-join : (l : List Entry) {m : List Entry} → Rising l → Rising m → ((x y : Entry) → In x l → In y m → Before x y) → Rising (l ++ m)
+rising-join [] r q f = q
+rising-join (x ∷ l) {m} r q f = more (λ y h. ahead y (in-split l m h)) (rising-join l (rising-tail r) q (λ y z h k. f y z (past h) k))
+  where
+    ahead : (y : Entry) → In y l ⊎ In y m → Before x y
+    ahead y (inl h) = rising-head r y h
+    ahead y (inr h) = f x y (at refl) h
+
+pub same-list : (l m : List Entry) → Rising l → Rising m → ((e : Entry) → In e l → In e m) → ((e : Entry) → In e m → In e l) → l ≡ m
+same-list [] [] r q f g = refl
+same-list [] (y ∷ m) r q f g = absurd (not-nil (g y (at refl)))
+same-list (x ∷ l) [] r q f g = absurd (not-nil (f x (at refl)))
+same-list (x ∷ l) (y ∷ m) r q f g = cc (heads, same-list l m (rising-tail r) (rising-tail q) (λ e h. drops e h (in-cases (f e (past h)))) (λ e h. back e h (in-cases (g e (past h)))))
+  where
+    heads : x ≡ y
+    heads = pick (in-cases (f x (at refl))) (in-cases (g y (at refl)))
+      where
+        pick : (x ≡ y) ⊎ In x m → (y ≡ x) ⊎ In y l → x ≡ y
+        pick (inl e) k = e
+        pick (inr h) (inl e) = sym e
+        pick (inr h) (inr k) = absurd (after-both (rising-head q x h) (rising-head r y k))
+
+    drops : (e : Entry) → In e l → (e ≡ y) ⊎ In e m → In e m
+    drops e h (inl p) = absurd (after-self (rw (p ∙ sym heads) at (rising-head r e h)))
+    drops e h (inr k) = k
+
+    back : (e : Entry) → In e m → (e ≡ x) ⊎ In e l → In e l
+    back e h (inl p) = absurd (after-self (rw (p ∙ heads) at (rising-head q e h)))
+    back e h (inr k) = k

@@ -1,0 +1,83 @@
+-- `pages::seconds` takes the second nodes in turn. The invariant: what was found among those below v has gone into the page, and no more was left over than nodes were passed.
+use Prim.Native.Nat.{_-_, _≤_}
+use mathlib.Core.Path.{_≡_, refl}
+use mathlib.Core.Logic.{⊎-elim}
+use native.Mathlib.Omega.{arith}
+use borrow.Author.Needs.{needs}
+use Rattle.pages.specs.Work.{Ready, Seconds}
+use Rattle.pages.proofs.Scan.{seconds-none, seconds-add, seconds-skip}
+use Rattle.pages.proofs.seconds.Statement.{statement}
+use Rattle.pages.proofs.seconds.Tie as tie
+
+abbrev Inv-loop : tie.InvT-loop
+Inv-loop out₀ room len wt u from n bound floor k₀ v₀ out k v =
+    Seconds (λ l. l ≤ bound) len wt u from floor v out₀ (k₀ .given) (k₀ .left) out (k .given) (k .left) × Ready out₀ room len wt u from n (k₀ .left) × (from ≤ v) × (v ≤ n)
+
+abbrev μ-loop : tie.MeasureT-loop
+μ-loop out₀ room len wt u from n bound floor k₀ v₀ out k v = n - v
+
+loop-holds : tie.Need-loop-holds Inv-loop μ-loop
+loop-holds c = (seconds-none, c .before .pre, omega arith, omega arith)
+
+mul-l : tie.Need-mul-l Inv-loop μ-loop
+mul-l c = omega arith
+
+element-copy-out-l : tie.Need-element-copy-out-l Inv-loop μ-loop
+element-copy-out-l c = omega arith
+
+mul-x : tie.Need-mul-x Inv-loop μ-loop
+mul-x c = omega arith
+
+element-copy-out-x : tie.Need-element-copy-out-x Inv-loop μ-loop
+element-copy-out-x c = omega arith
+
+passes-requires : tie.Need-passes-requires Inv-loop μ-loop
+passes-requires c κs = search needs
+
+add-requires : tie.Need-add-requires Inv-loop μ-loop
+add-requires c κs =
+    let h = c .before .before .before .before .before .before .loop .inv in
+    (omega (arith, h .0 .grown .same), omega (arith, h .0 .grown .same), h .1 .light _ (c .before .before .before .before .before .loop-test .taken), omega (arith, h .0 .few))
+
+add-v : tie.Need-add-v Inv-loop μ-loop
+add-v c = omega arith
+
+loop-less : tie.Need-loop-less Inv-loop μ-loop
+loop-less c = omega arith
+
+loop-again : tie.Need-loop-again Inv-loop μ-loop
+loop-again c =
+    let h = c .before .before .before .before .before .loop .inv in (
+      ⊎-elim
+          (λ w. rw (w .5, w .6) (seconds-add _ (h .0) _ _ refl refl (h .2) (c .before .passes .ensures .holds (w .0 .taken)) (w .2 .ensures)))
+          (λ w. rw (w .1, w .2) (seconds-skip _ (h .0) _ _ refl refl (c .before .passes .ensures .fails (w .0 .left))))
+          (c .if1 .came),
+      h .1,
+      omega arith,
+      omega arith,
+    )
+
+same-length : tie.Need-same-length Inv-loop μ-loop
+same-length c = c .before .loop .inv .0 .grown .same
+
+returns : tie.Need-returns Inv-loop μ-loop
+returns c = let h = c .before .loop .inv in let e : c .before .loop .v ≡ c .before .before .before .args .n = omega arith in rw e at (h .0)
+
+pub seconds-spec : {M : Type 1} → statement M
+seconds-spec =
+    tie.close
+    (tie.spec
+    Inv-loop
+    μ-loop
+    loop-holds
+    mul-l
+    element-copy-out-l
+    mul-x
+    element-copy-out-x
+    passes-requires
+    add-requires
+    add-v
+    loop-less
+    loop-again
+    same-length
+    returns)

@@ -1,0 +1,24 @@
+-- A page of the listing, and pages asked for one after the other until none is left.
+use Prim.Native.Nat.{ℕ, _+_, _≤_, _<_}
+use mathlib.Core.Path.{_≡_}
+use mathlib.Core.List.{List, [], _∷_, _++_}
+use lib.ListN.{length, take}
+use Rattle.pages.specs.Listing.{Entry, After, Listing}
+
+-- those that qualify and come strictly after the starting pair
+abbrev pub Following : (Entry → Type 0) → ℕ → ℕ → Entry → Type 0
+Following P s t e = P e × After s t e
+
+-- the first of those that follow the start, as many as there is room for, and how many are left over
+pub record Page (P : Entry → Type 0) (s t room : ℕ) (given : List Entry) (left : ℕ) : Type 0 where
+  pub rows : List Entry
+  pub all : Listing (Following P s t) rows
+  pub fit : given ≡ take room rows
+  pub rest : length given + left ≡ length rows
+
+-- pages from the start (s, t) on, each with room for one row or more, each going on after the last row given, until none is left; joined is all that they gave
+pub data Run (P : Entry → Type 0) : (s t : ℕ) (joined : List Entry) → Type 0 where
+  ends : {s t room : ℕ} {given : List Entry} → 1 ≤ room → Page P s t room given 0 → Run P s t given
+  goes : {s t room left : ℕ} {given later : List Entry} (front : List Entry) (e : Entry)
+      → 1 ≤ room → Page P s t room given left → 0 < left → given ≡ front ++ e ∷ []
+      → Run P (e .low) (e .high) later → Run P s t (given ++ later)

@@ -1,0 +1,77 @@
+-- Working statements of this crate's functions, which no promise of an operation needs: the filling of a page, one first node at a time.
+-- A weight is carried lifted: x stands for the signed number x − 2^33.
+use Prim.Native.Nat.{ℕ, _+_, _*_, _≤_, _<_}
+use mathlib.Core.Path.{_≡_}
+use mathlib.Core.Bool.{Bool, true, false}
+use mathlib.Core.List.{List, [], _∷_, _++_}
+use lib.IntN.{ℤ, subℕ}
+use lib.ListN.{length, take, drop}
+use lib.Signed.{_≤ℤ_}
+use Rattle.arrays.specs.Filled.{at}
+use Rattle.table.specs.Signed.{Diff}
+use Rattle.pages.specs.Listing.{Entry, Listing}
+use Rattle.pages.specs.Bytes.{rows}
+
+-- the signed number that x stands for
+unfoldable pub lower : ℕ → ℤ
+lower x = subℕ x 8589934592
+
+-- the lifted floor: a lifted weight is at least r exactly if what it stands for is at least the floor
+pub record Raised (floor : ℤ) (r : ℕ) : Type 0 where
+  pub enough : (x : ℕ) (w : ℤ) → Diff x 8589934592 w → r ≤ x → floor ≤ℤ w
+  pub needed : (x : ℕ) (w : ℤ) → Diff x 8589934592 w → floor ≤ℤ w → r ≤ x
+
+-- the second nodes of u that make a pair after the start (s, t), for s at most u: those from r on
+pub record Starts (s t u n r : ℕ) : Type 0 where
+  pub within : r ≤ n
+  pub after : (v : ℕ) → v < n → r ≤ v → (u < v) × (u ≡ s → t < v)
+  pub before : (v : ℕ) → v < n → u < v → (u ≡ s → t < v) → r ≤ v
+
+-- r is the answer to whether P holds
+pub record Decides (P : Type 0) (r : Bool) : Type 0 where
+  pub holds : r ≡ true → P
+  pub fails : r ≡ false → P → ⊥
+
+-- a page that is filling: of the entries seen so far the first are written, as many as there is room for, and the others counted
+pub record Fills (old : List ℕ) (seen : List Entry) (given left : ℕ) (out : List ℕ) : Type 0 where
+  pub room : 16 * given ≤ length old
+  pub total : given + left ≡ length seen
+  pub full : 0 < left → length old < 16 * given + 16
+  pub written : out ≡ rows (take given seen) ++ drop (16 * given) old
+
+-- one entry more: whatever the page had been filled with
+pub record Added (e : Entry) (old : List ℕ) (given left : ℕ) (now : List ℕ) (given₁ left₁ : ℕ) : Type 0 where
+  pub fills : (page : List ℕ) (seen : List Entry) → Fills page seen given left old → Fills page (seen ++ e ∷ []) given₁ left₁ now
+  pub same : length now ≡ length old
+  pub few : left₁ ≤ left + 1
+
+-- the listing of X more
+pub record Grown (X : Entry → Type 0) (old : List ℕ) (given left : ℕ) (now : List ℕ) (given₁ left₁ : ℕ) : Type 0 where
+  pub found : List Entry
+  pub all : Listing X found
+  pub fills : (page : List ℕ) (seen : List Entry) → Fills page seen given left old → Fills page (seen ++ found) given₁ left₁ now
+  pub same : length now ≡ length old
+
+-- the entries of first node u whose second node is from `from` on and below v, with the lengths and lifted weights that two lists hold, within the length test and at least the lifted floor
+pub record Here (Within : ℕ → Type 0) (len wt : List ℕ) (u from floor v : ℕ) (e : Entry) : Type 0 where
+  pub one : e .low ≡ u
+  pub since : from ≤ e .high
+  pub upto : e .high < v
+  pub reach : e .length ≡ at len (e .high)
+  pub load : Diff (at wt (e .high)) 8589934592 (e .weight)
+  pub short : Within (at len (e .high))
+  pub heavy : floor ≤ at wt (e .high)
+
+-- what the scan of one first node asks, and what it gives
+pub record Ready (out : List ℕ) (room : ℕ) (len wt : List ℕ) (u from n left : ℕ) : Type 0 where
+  pub low : 16 * room ≤ length out
+  pub high : length out < 16 * room + 16
+  pub nodes : n ≤ 4096
+  pub within : from ≤ n
+  pub light : (v : ℕ) → v < n → at wt v < 17179869184
+  pub few : left ≤ 4096 * u
+  pub node : u < 4096
+
+pub record Seconds (Within : ℕ → Type 0) (len wt : List ℕ) (u from floor v : ℕ) (old : List ℕ) (given left : ℕ) (now : List ℕ) (given₁ left₁ : ℕ) : Type 0 where
+  pub grown : Grown (Here Within len wt u from floor v) old given left now given₁ left₁
+  pub few : left₁ + from ≤ left + v

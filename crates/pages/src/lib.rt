@@ -1,0 +1,152 @@
+// Pages of the listing: rows of 16 bytes in lent memory, filled in pair order, one first node at a time. Knows no tree: the lengths and the lifted weights of a node's paths come in two lent arrays.
+ghost use mathlib.Core.Path.{_≡_};
+ghost use Prim.Native.Nat.{ℕ, _+_, _*_, _≤_, _<_};
+ghost use lib.ListN.{length};
+ghost use lib.Seq.{sets};
+ghost use mir.Syntax.{w64};
+ghost use mir.Val.{ofZ};
+ghost use Rattle.pages.specs.Listing.{entry};
+ghost use Rattle.pages.specs.Bytes.{bytes, row};
+ghost use Rattle.pages.specs.Work.{lower, Raised, Starts, Decides, Added, Ready, Seconds};
+
+// The rows written and the rows left over.
+pub struct Count {
+    pub given: usize,
+    pub left: usize,
+}
+
+// The k lowest bytes of x, lowest first.
+fn put(out: &mut [u8], at: usize, x: u64, k: usize)
+    requires { ⌜ at + k ≤ length (now out) ⌝ }
+    ensures { λ _. ⌜ now (out .exit) ≡ sets (now (out .entry)) at (bytes k x) ⌝ }
+{
+    let mut p = at;
+    let mut y = x;
+    let mut j = k;
+    while 0 < j {
+        out[p] = (y % 256) as u8;
+        p += 1;
+        y = y / 256;
+        j -= 1;
+    }
+}
+
+// The 64 bits of the signed number that x stands for.
+fn bits(x: u64) -> u64
+    requires { ⌜ x < 17179869184 ⌝ }
+    ensures { λ r. ⌜ r ≡ ofZ w64 (lower x) ⌝ }
+{
+    if x < 8589934592 {
+        x + 18446744065119617024
+    } else {
+        x - 8589934592
+    }
+}
+
+// One row: the pair a, b with length l and lifted weight x.
+fn put_row(out: &mut [u8], at: usize, a: usize, b: usize, l: u64, x: u64)
+    requires { ⌜ (at + 16 ≤ length (now out)) × (x < 17179869184) ⌝ }
+    ensures { λ _. ⌜ now (out .exit) ≡ sets (now (out .entry)) at (row (entry a b l (lower x))) ⌝ }
+{
+    put(out, at, a as u64, 2);
+    put(out, at + 2, b as u64, 2);
+    put(out, at + 4, l, 4);
+    let w = bits(x);
+    put(out, at + 8, w, 8);
+}
+
+// A row more where there is room for it, one more left over where there is none.
+fn add(out: &mut [u8], room: usize, a: usize, b: usize, l: u64, x: u64, c: Count) -> Count
+    requires { ⌜ (16 * room ≤ length (now out)) × (length (now out) < 16 * room + 16) × (x < 17179869184) × (c .left < 33554432) ⌝ }
+    ensures { λ r. ⌜ Added (entry a b l (lower x)) (now (out .entry)) (c .given) (c .left) (now (out .exit)) (r .given) (r .left) ⌝ }
+{
+    if c.given < room {
+        let g = c.given;
+        put_row(out, 16 * g, a, b, l, x);
+        return Count {
+            given: g + 1,
+            left: c.left,
+        };
+    }
+    Count {
+        given: c.given,
+        left: c.left + 1,
+    }
+}
+
+// Whether a length is within the bound and a lifted weight at least the lifted floor.
+fn passes(l: u64, x: u64, bound: u64, floor: u64) -> bool
+    ensures { λ r. ⌜ Decides ((l ≤ bound) × (floor ≤ x)) r ⌝ }
+{
+    if bound < l {
+        return false;
+    }
+    if x < floor {
+        return false;
+    }
+    true
+}
+
+// One more than x, and n where that is above n.
+fn next(x: usize, n: usize) -> usize
+    ensures { λ r. ⌜ (x < n → r ≡ x + 1) × (n ≤ x → r ≡ n) ⌝ }
+{
+    if x < n {
+        return x + 1;
+    }
+    n
+}
+
+// The second node of u to begin with, for the start s, t: nothing before it makes a pair after the start.
+pub fn first_second(s: usize, t: usize, u: usize, n: usize) -> usize
+    ensures { λ r. ⌜ Starts s t u n r ⌝ }
+{
+    if u == s {
+        if u < t {
+            return next(t, n);
+        }
+    }
+    next(u, n)
+}
+
+// The second nodes of u in turn, from `from` on: each that passes goes into the page, or is counted.
+pub fn seconds(
+    out: &mut [u8],
+    room: usize,
+    len: &[u64; 4096],
+    wt: &[u64; 4096],
+    u: usize,
+    from: usize,
+    n: usize,
+    bound: u64,
+    floor: u64,
+    c: Count,
+) -> Count
+    requires { ⌜ Ready (now out) room (now len) (now wt) u from n (c .left) ⌝ }
+    ensures { λ r. ⌜ Seconds (λ l. l ≤ bound) (now (len .entry)) (now (wt .entry)) u from floor n (now (out .entry)) (c .given) (c .left) (now (out .exit)) (r .given) (r .left) ⌝ }
+{
+    let mut k = c;
+    let mut v = from;
+    while v < n {
+        let l = len[v];
+        let x = wt[v];
+        if passes(l, x, bound, floor) {
+            k = add(out, room, u, v, l, x, k);
+        }
+        v += 1;
+    }
+    k
+}
+
+// The floor, lifted; 0 where it is below all that can be lifted.
+pub fn raised(floor: i64) -> u64
+    ensures { λ r. ⌜ Raised floor r ⌝ }
+{
+    if floor >= 0 {
+        return (floor as u64) + 8589934592;
+    }
+    if floor < -8589934592 {
+        return 0;
+    }
+    (floor + 8589934592) as u64
+}
