@@ -1,0 +1,10 @@
+-- Laws and theorems, from the ground up.
+pub mod Below
+pub mod Leaves
+pub mod Main
+pub mod Head
+pub mod Backward
+pub mod LeafSweep
+pub mod SizeSweep
+pub mod MainSweep
+pub mod HeadSweep

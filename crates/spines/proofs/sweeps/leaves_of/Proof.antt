@@ -1,0 +1,126 @@
+-- `leaves_of` meets its contract. The places from i on have given their leaves to their parents; at the end the root alone has not.
+use Prim.Native.Nat.{_-_, _≤_, _<_}
+use native.Mathlib.Omega.{arith}
+use borrow.Author.Needs.{needs}
+use Rattle.arrays.specs.Filled.{at}
+use Rattle.tree.specs.Grown.{Grown}
+use Rattle.tree.proofs.Grown.{read-node, read-parent}
+use Rattle.spines.specs.Spine.{Leaf}
+use Rattle.spines.specs.Parents.{Child}
+use Rattle.spines.proofs.Backward.{Given}
+use Rattle.spines.proofs.LeafSweep.{leaves-none, leaves-next, leaves-all, leaves-fit}
+use Rattle.spines.proofs.sweeps.leaves_of.Statement.{statement}
+use Rattle.spines.proofs.sweeps.leaves_of.Tie as tie
+
+abbrev Inv-loop : tie.InvT-loop
+Inv-loop parent order place n leaves₀ i₀ leaves i = Given (Leaf (Child n (at parent)) n) n parent place i leaves × Grown n parent order place × (0 < i) × (i ≤ n)
+
+abbrev μ-loop : tie.MeasureT-loop
+μ-loop parent order place n leaves₀ i₀ leaves i = i
+
+fill-requires : tie.Need-fill-requires Inv-loop μ-loop
+fill-requires c κs = search needs
+
+loop-holds : tie.Need-loop-holds Inv-loop μ-loop
+loop-holds c = let g = c .before .before .pre in (leaves-none g _ (c .fill .ensures), g, g .some .0, omega arith)
+
+sub-i : tie.Need-sub-i Inv-loop μ-loop
+sub-i c = omega arith
+
+mul-wide : tie.Need-mul-wide Inv-loop μ-loop
+mul-wide c = omega arith
+
+element-copy-out-wide : tie.Need-element-copy-out-wide Inv-loop μ-loop
+element-copy-out-wide c = omega arith
+
+wide-requires : tie.Need-wide-requires Inv-loop μ-loop
+wide-requires c κs = search needs
+
+mul-wide-2 : tie.Need-mul-wide-2 Inv-loop μ-loop
+mul-wide-2 c = let h = c .before .before .before .loop .inv in omega (arith, read-node (h .1) (c .before .before .before .loop .i - 1) _ (omega arith) (c .wide .ensures .0))
+
+element-copy-out-wide-2 : tie.Need-element-copy-out-wide-2 Inv-loop μ-loop
+element-copy-out-wide-2 c = let h = c .before .before .before .loop .inv in omega (arith, read-node (h .1) (c .before .before .before .loop .i - 1) _ (omega arith) (c .wide .ensures .0))
+
+wide-requires-2 : tie.Need-wide-requires-2 Inv-loop μ-loop
+wide-requires-2 c κs = search needs
+
+mul-least : tie.Need-mul-least Inv-loop μ-loop
+mul-least c = let h = c .before .before .before .before .before .loop .inv in omega (arith, read-node (h .1) (c .before .before .before .before .before .loop .i - 1) _ (omega arith) (c .before .before .wide .ensures .0))
+
+element-copy-out-least : tie.Need-element-copy-out-least Inv-loop μ-loop
+element-copy-out-least c = let h = c .before .before .before .before .before .loop .inv in omega (arith, read-node (h .1) (c .before .before .before .before .before .loop .i - 1) _ (omega arith) (c .before .before .wide .ensures .0))
+
+least-requires : tie.Need-least-requires Inv-loop μ-loop
+least-requires c κs = search needs
+
+mul-y : tie.Need-mul-y Inv-loop μ-loop
+mul-y c = let h = c .before .before .before .before .before .before .before .loop .inv in omega (arith, read-parent (h .1) (c .before .before .before .before .before .before .before .loop .i - 1) _ _ (omega arith) (omega arith) (c .before .before .before .before .wide .ensures .0) (c .before .before .wide2 .ensures .0))
+
+element-copy-out-y : tie.Need-element-copy-out-y Inv-loop μ-loop
+element-copy-out-y c = let h = c .before .before .before .before .before .before .before .loop .inv in omega (arith, read-parent (h .1) (c .before .before .before .before .before .before .before .loop .i - 1) _ _ (omega arith) (omega arith) (c .before .before .before .before .wide .ensures .0) (c .before .before .wide2 .ensures .0))
+
+add-y : tie.Need-add-y Inv-loop μ-loop
+add-y c = let h = c .before .before .before .before .before .before .before .before .loop .inv in omega (arith, h .1 .some .1, leaves-fit (h .1) _ _ _ _ (c .before .before .before .before .before .before .before .loop-test .taken) (h .3) (c .before .before .before .before .before .wide .ensures .0) (c .before .before .before .wide2 .ensures .0) _ (h .0) (c .before .least .ensures))
+
+mul-leaves : tie.Need-mul-leaves Inv-loop μ-loop
+mul-leaves c = let h = c .before .before .before .before .before .before .before .before .loop .inv in omega (arith, read-node (h .1) (c .before .before .before .before .before .before .before .before .loop .i - 1) _ (omega arith) (c .before .before .before .before .before .wide .ensures .0))
+
+element-write-leaves : tie.Need-element-write-leaves Inv-loop μ-loop
+element-write-leaves c = let h = c .before .before .before .before .before .before .before .before .loop .inv in omega (arith, read-node (h .1) (c .before .before .before .before .before .before .before .before .loop .i - 1) _ (omega arith) (c .before .before .before .before .before .wide .ensures .0))
+
+mul-leaves-2 : tie.Need-mul-leaves-2 Inv-loop μ-loop
+mul-leaves-2 c = let h = c .before .before .before .before .before .before .before .before .loop .inv in omega (arith, read-parent (h .1) (c .before .before .before .before .before .before .before .before .loop .i - 1) _ _ (omega arith) (omega arith) (c .before .before .before .before .before .wide .ensures .0) (c .before .before .before .wide2 .ensures .0))
+
+element-write-leaves-2 : tie.Need-element-write-leaves-2 Inv-loop μ-loop
+element-write-leaves-2 c = let h = c .before .before .before .before .before .before .before .before .loop .inv in omega (arith, read-parent (h .1) (c .before .before .before .before .before .before .before .before .loop .i - 1) _ _ (omega arith) (omega arith) (c .before .before .before .before .before .wide .ensures .0) (c .before .before .before .wide2 .ensures .0))
+
+loop-less : tie.Need-loop-less Inv-loop μ-loop
+loop-less c = omega arith
+
+loop-again : tie.Need-loop-again Inv-loop μ-loop
+loop-again c = let h = c .before .before .before .before .before .before .before .before .loop .inv in (leaves-next (h .1) _ _ _ _ (c .before .before .before .before .before .before .before .loop-test .taken) (h .3) (c .before .before .before .before .before .wide .ensures .0) (c .before .before .before .wide2 .ensures .0) _ (h .0) (c .before .least .ensures), h .1, omega arith, omega arith)
+
+element-copy-out-least-2 : tie.Need-element-copy-out-least-2 Inv-loop μ-loop
+element-copy-out-least-2 c = omega arith
+
+least-requires-2 : tie.Need-least-requires-2 Inv-loop μ-loop
+least-requires-2 c κs = search needs
+
+element-write-leaves-3 : tie.Need-element-write-leaves-3 Inv-loop μ-loop
+element-write-leaves-3 c = omega arith
+
+returns : tie.Need-returns Inv-loop μ-loop
+returns c = let h = c .before .before .before .loop .inv in leaves-all (h .1) _ _ _ (omega arith) (h .2) (h .0) (c .least2 .ensures)
+
+pub leaves-of-spec : {M : Type 1} → statement M
+leaves-of-spec =
+    tie.close
+    (tie.spec
+    Inv-loop
+    μ-loop
+    fill-requires
+    loop-holds
+    sub-i
+    mul-wide
+    element-copy-out-wide
+    wide-requires
+    mul-wide-2
+    element-copy-out-wide-2
+    wide-requires-2
+    mul-least
+    element-copy-out-least
+    least-requires
+    mul-y
+    element-copy-out-y
+    add-y
+    mul-leaves
+    element-write-leaves
+    mul-leaves-2
+    element-write-leaves-2
+    loop-less
+    loop-again
+    element-copy-out-least-2
+    least-requires-2
+    element-write-leaves-3
+    returns)

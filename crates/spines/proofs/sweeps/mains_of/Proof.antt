@@ -1,0 +1,86 @@
+-- `mains_of` meets its contract. Each node has the best of its children below c.
+use Prim.Native.Nat.{_-_, _≤_, _<_}
+use native.Mathlib.Omega.{arith}
+use borrow.Author.Needs.{needs}
+use Rattle.tree.specs.Grown.{Grown}
+use Rattle.spines.specs.Work.{Bests}
+use Rattle.spines.proofs.MainSweep.{bests-none, bests-more, bests-all, best-small, read-child}
+use Rattle.spines.proofs.sweeps.mains_of.Statement.{statement}
+use Rattle.spines.proofs.sweeps.mains_of.Tie as tie
+
+abbrev Inv-loop : tie.InvT-loop
+Inv-loop parent order place leaves n main₀ c₀ main c = Bests n parent leaves c main × Grown n parent order place × (0 < c) × ((c ≤ n) × (n ≤ 4096))
+
+abbrev μ-loop : tie.MeasureT-loop
+μ-loop parent order place leaves n main₀ c₀ main c = n - c
+
+fill-requires : tie.Need-fill-requires Inv-loop μ-loop
+fill-requires c κs = search needs
+
+loop-holds : tie.Need-loop-holds Inv-loop μ-loop
+loop-holds c = let g = c .before .before .pre in (bests-none _ _ _ _ (g .some .1) (c .fill .ensures), g, omega arith, (g .some .0, g .some .1))
+
+mul-wide : tie.Need-mul-wide Inv-loop μ-loop
+mul-wide c = omega arith
+
+element-copy-out-wide : tie.Need-element-copy-out-wide Inv-loop μ-loop
+element-copy-out-wide c = omega arith
+
+wide-requires : tie.Need-wide-requires Inv-loop μ-loop
+wide-requires c κs = search needs
+
+mul-wide-2 : tie.Need-mul-wide-2 Inv-loop μ-loop
+mul-wide-2 c = let h = c .before .before .before .loop .inv in omega (arith, h .1 .some .1, read-child (h .1) _ _ (h .2) (c .before .before .loop-test .taken) (c .wide .ensures .0))
+
+element-copy-out-wide-2 : tie.Need-element-copy-out-wide-2 Inv-loop μ-loop
+element-copy-out-wide-2 c = let h = c .before .before .before .loop .inv in omega (arith, h .1 .some .1, read-child (h .1) _ _ (h .2) (c .before .before .loop-test .taken) (c .wide .ensures .0))
+
+wide-requires-2 : tie.Need-wide-requires-2 Inv-loop μ-loop
+wide-requires-2 c κs = search needs
+
+better-requires : tie.Need-better-requires Inv-loop μ-loop
+better-requires c κs = let h = c .before .before .before .before .before .loop .inv in (omega (arith, c .wide2 .ensures .0, best-small _ (h .3 .1) (h .3 .0) (read-child (h .1) _ _ (h .2) (c .before .before .before .before .loop-test .taken) (c .before .before .wide .ensures .0)) (h .0)), omega (arith, h .3 .1))
+
+cast-main : tie.Need-cast-main Inv-loop μ-loop
+cast-main c = omega (arith, c .better .ensures .small)
+
+mul-main : tie.Need-mul-main Inv-loop μ-loop
+mul-main c = let h = c .before .before .before .before .before .before .loop .inv in omega (arith, h .1 .some .1, read-child (h .1) _ _ (h .2) (c .before .before .before .before .before .loop-test .taken) (c .before .before .before .wide .ensures .0))
+
+element-write-main : tie.Need-element-write-main Inv-loop μ-loop
+element-write-main c = let h = c .before .before .before .before .before .before .loop .inv in omega (arith, h .1 .some .1, read-child (h .1) _ _ (h .2) (c .before .before .before .before .before .loop-test .taken) (c .before .before .before .wide .ensures .0))
+
+add-c : tie.Need-add-c Inv-loop μ-loop
+add-c c = omega arith
+
+loop-less : tie.Need-loop-less Inv-loop μ-loop
+loop-less c = omega arith
+
+loop-again : tie.Need-loop-again Inv-loop μ-loop
+loop-again c = let h = c .before .before .before .before .before .before .loop .inv in let e = c .before .before .before .wide .ensures .0 in (bests-more _ _ _ _ _ _ _ (h .3 .1) (c .before .before .before .before .before .loop-test .taken) (omega arith) (rw e at (read-child (h .1) _ _ (h .2) (c .before .before .before .before .before .loop-test .taken) e)) e (h .0) (rw (c .before .wide2 .ensures .0) at (c .better .ensures)), h .1, omega arith, (omega arith, h .3 .1))
+
+returns : tie.Need-returns Inv-loop μ-loop
+returns c = let h = c .before .loop .inv in bests-all _ _ _ _ _ (omega arith) (h .0)
+
+pub mains-of-spec : {M : Type 1} → statement M
+mains-of-spec =
+    tie.close
+    (tie.spec
+    Inv-loop
+    μ-loop
+    fill-requires
+    loop-holds
+    mul-wide
+    element-copy-out-wide
+    wide-requires
+    mul-wide-2
+    element-copy-out-wide-2
+    wide-requires-2
+    better-requires
+    cast-main
+    mul-main
+    element-write-main
+    add-c
+    loop-less
+    loop-again
+    returns)

@@ -1,0 +1,26 @@
+-- Hops: the number of different spines that a path touches. And the floor of a binary logarithm, which bounds them.
+use Prim.Native.Nat.{ℕ, _+_, _^_, _≤_, _<_}
+use mathlib.Core.List.{List, _∷_}
+use Rattle.tree.specs.Members.{In, Distinct}
+use Rattle.tree.specs.Graph.{First, Walk}
+use Rattle.tree.specs.Count.{Count}
+use Rattle.spines.specs.Spine.{ChildOf, Head}
+
+-- a spine is known by its head: h heads one that touches a node of ns
+pub record Touched (C : ℕ → ℕ → Type 0) (n : ℕ) (ns : List ℕ) (h : ℕ) : Type 0 where
+  pub node : ℕ
+  pub on : In node ns
+  pub head : Head C n h node
+
+-- the path from x to y in a net of k rows and n nodes touches h different spines
+pub record Hops (u v : ℕ → ℕ) (k n x y h : ℕ) : Type 0 where
+  pub rows : List ℕ
+  pub nodes : List ℕ
+  pub walk : Walk u v (First k) x rows nodes y
+  pub once : Distinct (x ∷ nodes)
+  pub touches : Count (Touched (ChildOf u v k n) n (x ∷ nodes)) h
+
+-- k is the floor of the binary logarithm of x
+pub record FloorLog (x k : ℕ) : Type 0 where
+  pub least : 2 ^ k ≤ x
+  pub most : x < 2 ^ (k + 1)

@@ -1,0 +1,5 @@
+-- What a reader must believe of this crate.
+pub mod Spine
+pub mod Hops
+pub mod Parents
+pub mod Work
