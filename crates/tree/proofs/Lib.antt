@@ -9,6 +9,7 @@ pub mod RingExactly
 pub mod Labels
 pub mod Counts
 pub mod Rooted
+pub mod Values
 pub mod Net
 pub mod Union
 pub mod Chains

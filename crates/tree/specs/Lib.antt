@@ -2,6 +2,7 @@
 pub mod Members
 pub mod Graph
 pub mod Path
+pub mod Value
 pub mod Count
 pub mod Rooted
 pub mod Net
