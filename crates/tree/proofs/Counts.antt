@@ -10,7 +10,7 @@ use native.Mathlib.Decide.{ℕ-discrete}
 use lib.ListN.{length, length-append}
 use Rattle.tree.specs.Members.{In, at, past, Distinct}
 use Rattle.tree.specs.Count.{Count}
-use Rattle.tree.proofs.Members.{not-nil, in-left, in-right, in-either, distinct-join}
+use Rattle.tree.proofs.Members.{in?, not-nil, in-left, in-right, in-either, distinct-join}
 
 -- the numbers below n
 unfoldable pub upto : ℕ → List ℕ
@@ -125,3 +125,15 @@ count-all (suc n) = rw (one-add n) at (count-add {P = λ x. x ≡ n} {R = λ x. 
     pick : (x : ℕ) → x < suc n → Dec (x ≡ n) → (x ≡ n) ⊎ (x < n)
     pick x h (yes e) = inl e
     pick x h (no m) = inr (omega arith)
+
+-- as many as there are numbers below n: then all of them
+pub count-full : {P : ℕ → Type 0} {k : ℕ} (n : ℕ) → ((x : ℕ) → P x → x < n) → Count P k → n ≤ k → (x : ℕ) → x < n → P x
+count-full {P} {k} n f p l x b = pick (in? x (p .list))
+  where
+    below : (y : ℕ) → In y (x ∷ p .list) → In y (upto n)
+    below y (at e) = upto-in n y (rw e b)
+    below y (past i) = upto-in n y (f y (p .only y i))
+
+    pick : Dec (In x (p .list)) → P x
+    pick (yes i) = p .only x i
+    pick (no m) = absurd (omega (arith, upto-length n, p .long, distinct-le (x ∷ p .list) (upto n) (m, p .once) below))

@@ -15,7 +15,7 @@ use Rattle.tree.specs.Grown.{Grown}
 use Rattle.tree.specs.Work.{RowsFit}
 use Rattle.tree.proofs.Rows.{ends-flip}
 use Rattle.tree.proofs.Joined.{joined-trans, joined-sym}
-use Rattle.tree.proofs.Counts.{count-unique, count-same, count-none, count-one, count-add, count-all}
+use Rattle.tree.proofs.Counts.{count-unique, count-same, count-none, count-one, count-add, count-all, count-full}
 use Rattle.tree.proofs.Above.{Tree}
 use Rattle.tree.proofs.Chains.{from-fits, half-ends}
 
@@ -45,8 +45,11 @@ module _ {n : ℕ} {parent order place : List ℕ} (g : Grown n parent order pla
   pub read-parent : (i v p : ℕ) → 0 < i → i < n → v ≡ at order i → p ≡ at parent v → p < 4096
   read-parent i v p z b e f = omega (arith, par-fits i z b, g .some .1, ap (at parent) e)
 
--- From the walk's promise, where all nodes are joined
-module _ (us vs : ℕ → ℕ) (rows : ℕ) (n m : ℕ) (parent half order place : List ℕ) (small : n ≤ 4096) (some : 0 < n) (fit : RowsFit us vs rows n) (all : (x : ℕ) → x < n → Joined us vs (First rows) 0 x) (w : Walked us vs rows m parent half order place) where
+-- From the walk's promise, where the rows join nodes below n
+module _ (us vs : ℕ → ℕ) (rows n m : ℕ) (parent half order place : List ℕ) (small : n ≤ 4096) (some : 1 ≤ n) (fit : RowsFit us vs rows n) (w : Walked us vs rows m parent half order place) where
+  abbrev J : ℕ → Type 0
+  J x = Joined us vs (First rows) 0 x
+
   walk-fits : {a b : ℕ} {rs ns : List ℕ} → a < n → Walk us vs (First rows) a rs ns b → b < n
   walk-fits l stop = l
   walk-fits {a} l (go {r} {c = c} h e k) = walk-fits (side e) k
@@ -58,20 +61,28 @@ module _ (us vs : ℕ → ℕ) (rows : ℕ) (n m : ℕ) (parent half order place
   node : (i : ℕ) → i < m → at order i < n
   node i b = walk-fits some (w .joined i b .2)
 
-  here : (x : ℕ) → x < n → (at place x < m) × (at order (at place x) ≡ x)
-  here x b = w .listed x (omega arith) (all x b)
-
-  placed : (i : ℕ) → i ≤ m → Count (λ x. (x < n) × (at place x < i)) i
-  placed zero l = count-none (λ x h. omega (arith, h .1))
-  placed (suc i) l = rw (one-add i) at (count-add {P = λ x. x ≡ at order i} {R = λ x. (x < n) × (at place x < suc i)} (count-one (at order i) refl (λ y e. e)) (placed i (omega arith)) (λ x e h. omega (arith, h .1, w .back i (omega arith), ap (at place) e)) (λ x h. pick x h (ℕ-discrete (at place x) i)) (λ x e. rw e (node i (omega arith), omega (arith, w .back i (omega arith)))) (λ x h. (h .0, omega (arith, h .1))))
+  placed : (i : ℕ) → i ≤ m → Count (λ x. (x < n) × J x × (at place x < i)) i
+  placed zero l = count-none (λ x h. omega (arith, h .2))
+  placed (suc i) l = rw (one-add i) at (count-add {P = λ x. x ≡ at order i} {R = λ x. (x < n) × J x × (at place x < suc i)} (count-one (at order i) refl (λ y e. e)) (placed i (omega arith)) (λ x e h. omega (arith, h .2, w .back i (omega arith), ap (at place) e)) (λ x h. pick x h (ℕ-discrete (at place x) i)) (λ x e. rw e (node i (omega arith), w .joined i (omega arith), omega (arith, w .back i (omega arith)))) (λ x h. (h .0, h .1, omega (arith, h .2))))
     where
-      pick : (x : ℕ) → (x < n) × (at place x < suc i) → Dec (at place x ≡ i) → (x ≡ at order i) ⊎ ((x < n) × (at place x < i))
-      pick x h (yes e) = inl (sym (here x (h .0) .1) ∙ ap (at order) e)
-      pick x h (no q) = inr (h .0, omega (arith, h .1))
+      pick : (x : ℕ) → (x < n) × J x × (at place x < suc i) → Dec (at place x ≡ i) → (x ≡ at order i) ⊎ ((x < n) × J x × (at place x < i))
+      pick x h (yes e) = inl (sym (w .listed x (omega (arith, h .0)) (h .1) .1) ∙ ap (at order) e)
+      pick x h (no q) = inr (h .0, h .1, omega (arith, h .2))
 
-  -- all nodes have been reached
-  pub reached-all : m ≡ n
-  reached-all = count-unique (count-same {Q = λ x. x < n} (λ x h. h .0) (λ x h. (h, here x h .0)) (placed m (omega arith))) (count-all n)
+  -- m is the number of nodes that are joined to node 0
+  pub reached-count : Count (λ x. (x < n) × J x) m
+  reached-count = count-same (λ x h. (h .0, h .1)) (λ x h. (h .0, h .1, w .listed x (omega (arith, h .0)) (h .1) .0)) (placed m (omega arith))
+
+  -- all n nodes are joined exactly if no fewer than n were reached
+  pub reached-all : ((x : ℕ) → x < n → J x) → m ≡ n
+  reached-all all = count-unique (count-same {Q = λ x. x < n} (λ x h. h .0) (λ x h. (h, all x h)) reached-count) (count-all n)
+
+  pub all-joined : n ≤ m → (x : ℕ) → x < n → J x
+  all-joined l x b = count-full n (λ x h. h .0) reached-count l x b .1
+
+module _ (us vs : ℕ → ℕ) (rows n : ℕ) (parent half order place : List ℕ) (small : n ≤ 4096) (some : 1 ≤ n) (fit : RowsFit us vs rows n) (all : (x : ℕ) → x < n → Joined us vs (First rows) 0 x) (w : Walked us vs rows n parent half order place) where
+  here : (x : ℕ) → x < n → (at place x < n) × (at order (at place x) ≡ x)
+  here x b = w .listed x (omega arith) (all x b)
 
   not-first : (x : ℕ) → x < n → x ≢ 0 → 0 < at place x
   not-first x b z = pick (ℕ-discrete (at place x) 0)
@@ -87,9 +98,9 @@ module _ (us vs : ℕ → ℕ) (rows : ℕ) (n m : ℕ) (parent half order place
   walked-grown = record {
     some = (some, small);
     root = w .root;
-    within = λ i b. node i (omega (arith, reached-all));
-    back = λ i b. w .back i (omega (arith, reached-all));
-    here = λ x b. (omega (arith, here x b .0, reached-all), here x b .1);
+    within = node us vs rows n n parent half order place small some fit w;
+    back = w .back;
+    here = here;
     fits = λ x b z. let c = child x b z in rw (c .leaves) at (from-fits us vs (at half x) fit (c .fits));
     earlier = λ x b z. rw (here x b .1) at (w .above (at place x) (not-first x b z) (here x b .0) .0);
   }

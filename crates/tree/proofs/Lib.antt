@@ -18,3 +18,5 @@ pub mod Walked
 pub mod WalkOnly
 pub mod Above
 pub mod Grown
+pub mod Begins
+pub mod NetWalk

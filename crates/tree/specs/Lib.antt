@@ -6,6 +6,7 @@ pub mod Value
 pub mod Count
 pub mod Rooted
 pub mod Net
+pub mod Accept
 pub mod Half
 pub mod Walked
 pub mod Work

@@ -10,7 +10,7 @@ use Rattle.tree.specs.Members.{In}
 use Rattle.tree.specs.Graph.{First, Joined, Forest}
 use Rattle.tree.specs.Net.{firstEnd, secondEnd}
 use Rattle.tree.specs.Half.{from}
-use Rattle.tree.specs.Walked.{Reached, High, Falls}
+use Rattle.tree.specs.Walked.{Reached, High, Falls, Walked}
 
 -- the ends of each row are below n
 pub record RowsFit (us vs : ℕ → ℕ) (rows n : ℕ) : Type 0 where
@@ -22,6 +22,13 @@ pub record Readable (s : List ℕ) (rows : ℕ) : Type 0 where
   pub few : rows < 4096
   pub stands : (r : ℕ) → r < rows → Stands s r
   pub fit : RowsFit (firstEnd s) (secondEnd s) rows 4096
+
+-- n nodes and n − 1 rows between them
+pub record Fitting (s : List ℕ) (n : ℕ) : Type 0 where
+  pub some : 1 ≤ n
+  pub few : n ≤ 4096
+  pub stands : (r : ℕ) → r < n - 1 → Stands s r
+  pub fit : RowsFit (firstEnd s) (secondEnd s) (n - 1) n
 
 -- x is its own, or climbs to t
 pub data Climb (up : List ℕ) : ℕ → ℕ → Type 0 where
@@ -115,3 +122,11 @@ pub record Visits (s : List ℕ) (rows : ℕ) (first next : List ℕ) (head tail
   pub chains : Chained (firstEnd s) (secondEnd s) rows (2 * rows) first next
   pub ahead : head < tail
   pub outer : Outer (firstEnd s) (secondEnd s) rows head tail parent half order place
+
+-- m nodes are joined to node 0, as some walk found
+pub record Reaches (us vs : ℕ → ℕ) (rows m : ℕ) : Type 0 where
+  pub parent : List ℕ
+  pub half : List ℕ
+  pub order : List ℕ
+  pub place : List ℕ
+  pub walked : Walked us vs rows m parent half order place

@@ -1,4 +1,65 @@
-// What a net is: refusals 11 and 12, and the walk from the root.
+// What a net is: acceptance by refusals 1 to 12, and the walk from the root.
 mod ends;
 mod reach;
 mod ring;
+
+ghost use mathlib.Core.Path.{_≡_};
+ghost use Prim.Native.Nat.{_-_};
+ghost use Rattle.table.specs.Outcome.{Outcome, refusal, found};
+ghost use Rattle.tree.specs.Net.{firstEnd, secondEnd, Net};
+ghost use Rattle.tree.specs.Accept.{outcome, Rings, Accepts};
+ghost use Rattle.tree.specs.Walked.{Walked};
+ghost use Rattle.tree.specs.Work.{Fitting};
+use table::Opening;
+use table::Refusal;
+
+// What acceptance gives: the node count and the wire bound, or why not.
+pub enum Acceptance {
+    Accepted { nodes: u16, bound: u32 },
+    Refused(Refusal),
+}
+
+// Tests 1 to 12, in order.
+pub fn accept(s: &[u8]) -> Acceptance
+    ensures { λ r. ⌜ Accepts (now (s .entry)) (outcome r) ⌝ }
+{
+    let o = table::examine(s);
+    match o {
+        Opening::Refused(why) => Acceptance::Refused(why),
+        Opening::Opened { nodes, bound } => rings(s, nodes, bound),
+    }
+}
+
+// Tests 11 and 12, of a table that has passed the others.
+fn rings(s: &[u8], nodes: u16, bound: u32) -> Acceptance
+    requires { ⌜ Fitting (now s) nodes ⌝ }
+    ensures { λ r. ⌜ Rings Outcome refusal (now (s .entry)) nodes (λ x. x ≡ found nodes bound) (outcome r) ⌝ }
+{
+    let n = arrays::wide(nodes);
+    let rows = n - 1;
+    let r = ring::first_closing(s, rows);
+    if r < rows {
+        return Acceptance::Refused(Refusal { number: 11, row: r });
+    }
+    if reach::reached(s, rows) < n {
+        return Acceptance::Refused(Refusal { number: 12, row: 0 });
+    }
+    Acceptance::Accepted { nodes, bound }
+}
+
+// The walk from the root of an accepted net: for each node its parent, the half-branch by which it was reached and its place in the order; for each place the node.
+// For the crates above, which ask for acceptance first.
+pub fn walk(
+    s: &[u8],
+    nodes: u16,
+    parent: &mut [u16; 4096],
+    half: &mut [u16; 4096],
+    order: &mut [u16; 4096],
+    place: &mut [u16; 4096],
+)
+    requires { ⌜ Net (now s) nodes ⌝ }
+    ensures { λ _. ⌜ Walked (firstEnd (now (s .entry))) (secondEnd (now (s .entry))) (nodes - 1) nodes (now (parent .exit)) (now (half .exit)) (now (order .exit)) (now (place .exit)) ⌝ }
+{
+    let rows = arrays::wide(nodes) - 1;
+    reach::from_root(s, rows, parent, half, order, place);
+}

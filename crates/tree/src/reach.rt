@@ -5,7 +5,7 @@ ghost use Rattle.table.specs.Row.{Stands};
 ghost use Rattle.tree.specs.Net.{firstEnd, secondEnd};
 ghost use Rattle.tree.specs.Half.{from};
 ghost use Rattle.tree.specs.Walked.{Walked};
-ghost use Rattle.tree.specs.Work.{Readable, Chained, Outer, Visits};
+ghost use Rattle.tree.specs.Work.{Readable, Chained, Outer, Visits, Reaches};
 use crate::ends::first_end;
 use crate::ends::second_end;
 
@@ -32,7 +32,7 @@ fn leads(s: &[u8], h: usize) -> usize
 }
 
 // For each node the chain of the half-branches that leave it, each by one more than its number, from the highest down to 0.
-pub(crate) fn chains(s: &[u8], rows: usize, first: &mut [u16; 4096], next: &mut [u16; 8192])
+fn chains(s: &[u8], rows: usize, first: &mut [u16; 4096], next: &mut [u16; 8192])
     requires { ⌜ Readable (now s) rows ⌝ }
     ensures { λ _. ⌜ Chained (firstEnd (now (s .entry))) (secondEnd (now (s .entry))) rows (2 * rows) (now (first .exit)) (now (next .exit)) ⌝ }
 {
@@ -83,7 +83,7 @@ fn visit(
 }
 
 // All nodes that are joined to node 0: every place starts as unvisited, and the answer is how many were reached.
-pub(crate) fn reach(
+fn reach(
     s: &[u8],
     rows: usize,
     first: &[u16; 4096],
@@ -108,4 +108,34 @@ pub(crate) fn reach(
         head += 1;
     }
     tail
+}
+
+// The chains, and the walk over them.
+pub(crate) fn from_root(
+    s: &[u8],
+    rows: usize,
+    parent: &mut [u16; 4096],
+    half: &mut [u16; 4096],
+    order: &mut [u16; 4096],
+    place: &mut [u16; 4096],
+) -> usize
+    requires { ⌜ Readable (now s) rows ⌝ }
+    ensures { λ r. ⌜ Walked (firstEnd (now (s .entry))) (secondEnd (now (s .entry))) rows r (now (parent .exit)) (now (half .exit)) (now (order .exit)) (now (place .exit)) ⌝ }
+{
+    let mut first: [u16; 4096] = [0; 4096];
+    let mut next: [u16; 8192] = [0; 8192];
+    chains(s, rows, &mut first, &mut next);
+    reach(s, rows, &first, &next, parent, half, order, place)
+}
+
+// How many nodes are joined to node 0.
+pub(crate) fn reached(s: &[u8], rows: usize) -> usize
+    requires { ⌜ Readable (now s) rows ⌝ }
+    ensures { λ r. ⌜ Reaches (firstEnd (now (s .entry))) (secondEnd (now (s .entry))) rows r ⌝ }
+{
+    let mut parent: [u16; 4096] = [0; 4096];
+    let mut half: [u16; 4096] = [0; 4096];
+    let mut order: [u16; 4096] = [0; 4096];
+    let mut place: [u16; 4096] = [0; 4096];
+    from_root(s, rows, &mut parent, &mut half, &mut order, &mut place)
 }

@@ -1,0 +1,32 @@
+-- The walk of an accepted net, for the crates above: it reaches all nodes, so it makes an order (Grown) and a rooted tree (Rooted); and it allows one outcome.
+use Prim.Native.Nat.{ℕ, _-_, _/_}
+use mathlib.Core.Path.{_≡_}
+use mathlib.Core.List.{List}
+use Rattle.arrays.specs.Filled.{at}
+use Rattle.tree.specs.Net.{firstEnd, secondEnd, Net}
+use Rattle.tree.specs.Rooted.{Rooted}
+use Rattle.tree.specs.Walked.{Walked}
+use Rattle.tree.specs.Grown.{Grown}
+use Rattle.tree.specs.Work.{RowsFit, Fitting}
+use Rattle.tree.proofs.Grown.{reached-all, walked-grown, walked-rooted}
+use Rattle.tree.proofs.WalkOnly.{walked-only}
+
+pub net-fitting : {s : List ℕ} {n : ℕ} → Net s n → Fitting s n
+net-fitting t = record { some = t .some; few = t .few; stands = t .stands; fit = record { first = t .first; second = t .second } }
+
+module _ {s : List ℕ} {n : ℕ} (t : Net s n) where
+  fit : RowsFit (firstEnd s) (secondEnd s) (n - 1) n
+  fit = net-fitting t .fit
+
+  pub walk-all : {m : ℕ} {parent half order place : List ℕ} → Walked (firstEnd s) (secondEnd s) (n - 1) m parent half order place → m ≡ n
+  walk-all w = reached-all (firstEnd s) (secondEnd s) (n - 1) n _ _ _ _ _ (t .few) (t .some) fit w (t .joined)
+
+  module _ {parent half order place : List ℕ} (w : Walked (firstEnd s) (secondEnd s) (n - 1) n parent half order place) where
+    pub walk-grown : Grown n parent order place
+    walk-grown = walked-grown (firstEnd s) (secondEnd s) (n - 1) n parent half order place (t .few) (t .some) fit (t .joined) w
+
+    pub walk-rooted : Rooted (firstEnd s) (secondEnd s) (n - 1) n (at parent) (λ x. at half x / 2) (at place)
+    walk-rooted = walked-rooted (firstEnd s) (secondEnd s) (n - 1) n parent half order place (t .few) (t .some) fit (t .joined) w (t .forest)
+
+    pub walk-only : {parent′ half′ order′ place′ : List ℕ} → Walked (firstEnd s) (secondEnd s) (n - 1) n parent′ half′ order′ place′ → (parent ≡ parent′) × (half ≡ half′) × (order ≡ order′) × (place ≡ place′)
+    walk-only w′ = let e = walked-only (firstEnd s) (secondEnd s) (n - 1) (t .forest) w w′ in (e .1, e .2, e .3, e .4)

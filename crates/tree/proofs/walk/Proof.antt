@@ -1,0 +1,21 @@
+-- `walk` meets its contract: from the root of an accepted net all its nodes are reached.
+use Rattle.tree.proofs.Begins.{fitting-readable}
+use Rattle.tree.proofs.NetWalk.{net-fitting, walk-all}
+use borrow.Author.Needs.{needs}
+use Rattle.tree.proofs.walk.Statement.{statement}
+use Rattle.tree.proofs.walk.Tie as tie
+
+wide-requires : tie.Need-wide-requires
+wide-requires c κs = search needs
+
+sub-rows : tie.Need-sub-rows
+sub-rows c = search needs
+
+from-root-requires : tie.Need-from-root-requires
+from-root-requires c κs = rw (c .before .before .before .before .wide .ensures .0) (fitting-readable (net-fitting (c .before .before .before .before .before .before .pre)))
+
+returns : tie.Need-returns
+returns c = let w = rw (c .before .before .before .before .before .wide .ensures .0) at (c .from-root .ensures) in rw (walk-all (c .before .before .before .before .before .before .before .pre) w) at w
+
+pub walk-spec : {M : Type 1} → statement M
+walk-spec = tie.close (tie.spec wide-requires sub-rows from-root-requires returns)
