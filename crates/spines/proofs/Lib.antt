@@ -8,3 +8,8 @@ pub mod LeafSweep
 pub mod SizeSweep
 pub mod MainSweep
 pub mod HeadSweep
+pub mod FloorLog
+pub mod Leaving
+pub mod Same
+pub mod Net
+pub mod HopsBound

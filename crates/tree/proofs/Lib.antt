@@ -20,3 +20,6 @@ pub mod Above
 pub mod Grown
 pub mod Begins
 pub mod NetWalk
+pub mod Climbs
+pub mod Route
+pub mod Far

@@ -1,0 +1,77 @@
+-- The children by the walk's parents are the children of the net. So a node's head by the walk's arrays is its head, and each node has one.
+use Prim.Native.Nat.{ℕ, _<_}
+use mathlib.Core.Path.{_≡_, refl}
+use mathlib.Core.Logic.{_⊎_, inl, inr, _≢_, ⊎-elim}
+use mathlib.Core.List.{_∷_}
+use native.Mathlib.Omega.{arith}
+use Rattle.tree.specs.Members.{In}
+use Rattle.tree.specs.Graph.{Ends}
+use Rattle.tree.specs.Rooted.{Above, self, up, Rooted}
+use Rattle.tree.proofs.Rows.{ends-flip}
+use Rattle.tree.proofs.OnePath.{unique}
+use Rattle.tree.proofs.Rooted.{above-inv, owner}
+use Rattle.tree.proofs.Above.{Tree, above-trans, fits-up, place-up}
+use Rattle.tree.proofs.Climbs.{root-above}
+use Rattle.tree.proofs.Route.{Route, route}
+use Rattle.spines.specs.Spine.{ChildOf, Head}
+use Rattle.spines.specs.Parents.{Child}
+use Rattle.spines.proofs.Head.{head-one}
+use Rattle.spines.proofs.Same.{same-head}
+
+module _ {u v : ℕ → ℕ} {k n : ℕ} {par row place : ℕ → ℕ} (R : Rooted u v k n par row place) (T : Tree n par place) (some : 0 < n) where
+  -- the path from the root to x, whose nodes are those above x
+  root-route : (x : ℕ) → x < n → Route R T 0 0 x
+  root-route x b = route R T some b self (root-above T x b) (λ z h g. h .not (top-is z (h .above)))
+    where
+      top-is : (z : ℕ) → Above par z 0 → z ≡ 0
+      top-is z a = ⊎-elim (λ e. e) (λ s. absurd (s .0 refl)) (above-inv a)
+
+  path-above : (x z : ℕ) → (b : x < n) → In z (0 ∷ root-route x b .nodes) → Above par z x
+  path-above x z b i = ⊎-elim (λ a. above-trans a (root-above T x b)) (λ a. a) (root-route x b .only z i .1)
+
+  above-path : (x z : ℕ) → (b : x < n) → Above par z x → In z (0 ∷ root-route x b .nodes)
+  above-path x z b a = root-route x b .all z (root-above T z (fits-up T b a)) (inr a)
+
+  pub child-net : (p c : ℕ) → Child n par p c → ChildOf u v k n p c
+  child-net p c i =
+      let bp : p < n = rw (i .of) at (T .fits c (i .fits) (i .low)) in
+      let r = root-route p bp in
+      record {
+        fits = i .fits;
+        rows = r .rows;
+        nodes = r .nodes;
+        row = row c;
+        walk = r .walk;
+        once = r .once;
+        low = R .row-fits c (i .fits) (i .low);
+        ends = ends-flip u v (rw (i .of) at (R .ends c (i .fits) (i .low)));
+        new = λ m. omega (arith, place-up T bp (path-above p c bp m), rw (i .of) at (T .earlier c (i .fits) (i .low)));
+      }
+
+  pub net-child : (p c : ℕ) → ChildOf u v k n p c → Child n par p c
+  net-child p c i = pick (owner u v R (i .row) p c (i .low) bp (i .fits) (i .ends))
+    where
+      side : Ends u v (i .row) p c → p < n
+      side (inl e) = rw (e .0) at (R .fits (i .row) (i .low) .0)
+      side (inr e) = rw (e .1) at (R .fits (i .row) (i .low) .1)
+
+      bp : p < n
+      bp = side (i .ends)
+
+      same : root-route p bp .nodes ≡ i .nodes
+      same = unique u v (R .forest) (root-route p bp .walk) (i .walk) (root-route p bp .once) (i .once) .1
+
+      pick : ((p ≢ 0) × (row p ≡ i .row) × (par p ≡ c)) ⊎ ((c ≢ 0) × (row c ≡ i .row) × (par c ≡ p)) → Child n par p c
+      pick (inl o) = absurd (i .new (rw same at (above-path p c bp (up (o .0) (o .2) self))))
+      pick (inr o) = record { fits = i .fits; low = o .0; of = o .2 }
+
+  -- heads by the walk's parents are heads
+  pub head-net : {h x : ℕ} → Head (Child n par) n h x → Head (ChildOf u v k n) n h x
+  head-net k = same-head child-net net-child k
+
+  pub net-head : {h x : ℕ} → Head (ChildOf u v k n) n h x → Head (Child n par) n h x
+  net-head k = same-head net-child child-net k
+
+  -- each node has one head
+  pub net-head-one : {h g x : ℕ} → Head (ChildOf u v k n) n h x → Head (ChildOf u v k n) n g x → h ≡ g
+  net-head-one p q = head-one (net-head p) (net-head q)
