@@ -1,0 +1,4 @@
+-- Laws of the paths from one node, by topic.
+pub mod Branch
+pub mod Climbs
+pub mod Sweeps

@@ -1,0 +1,4 @@
+-- What the contracts of this crate cite; Work holds only working statements of its private functions.
+pub mod Ground
+pub mod Paths
+pub mod Work
