@@ -1,0 +1,2 @@
+-- Laws of marks, by topic.
+pub mod Weights
