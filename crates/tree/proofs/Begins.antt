@@ -22,7 +22,7 @@ use Rattle.tree.specs.declared.Acceptance.the-variants as variants
 use Rattle.tree.proofs.Grown.{reached-all, all-joined}
 
 -- what is found is no refusal, and a refusal finds nothing
-not-refused : {n b k r : ℕ} → (k ≡ 0 → ⊥) → refusal k r ≡ found n b → ⊥
+pub not-refused : {n b k r : ℕ} → (k ≡ 0 → ⊥) → refusal k r ≡ found n b → ⊥
 not-refused n e = n (ap (λ (o : Outcome). o .number) e)
 
 nothing-found : {n b k r : ℕ} → 1 ≤ n → refusal k r ≡ found n b → ⊥

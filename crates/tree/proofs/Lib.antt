@@ -10,6 +10,7 @@ pub mod Labels
 pub mod Counts
 pub mod Rooted
 pub mod Values
+pub mod TwoClimbs
 pub mod Net
 pub mod Union
 pub mod Chains
@@ -18,8 +19,11 @@ pub mod Walked
 pub mod WalkOnly
 pub mod Above
 pub mod Grown
+pub mod Sweep
 pub mod Begins
 pub mod NetWalk
+pub mod Eleven
+pub mod Theorems
 pub mod Climbs
 pub mod Route
 pub mod Far

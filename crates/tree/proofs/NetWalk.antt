@@ -1,13 +1,16 @@
 -- The walk of an accepted net, for the crates above: it reaches all nodes, so it makes an order (Grown) and a rooted tree (Rooted); and it allows one outcome.
-use Prim.Native.Nat.{ℕ, _-_, _/_}
+use Prim.Native.Nat.{ℕ, _-_, _/_, _<_}
 use mathlib.Core.Path.{_≡_}
 use mathlib.Core.List.{List}
 use Rattle.arrays.specs.Filled.{at}
+use Rattle.tree.specs.Graph.{First, Simple}
 use Rattle.tree.specs.Net.{firstEnd, secondEnd, Net}
 use Rattle.tree.specs.Rooted.{Rooted}
 use Rattle.tree.specs.Walked.{Walked}
 use Rattle.tree.specs.Grown.{Grown}
 use Rattle.tree.specs.Work.{RowsFit, Fitting}
+use Rattle.tree.proofs.Joined.{joined-trans, joined-sym}
+use Rattle.tree.proofs.Erase.{simple}
 use Rattle.tree.proofs.Grown.{reached-all, walked-grown, walked-rooted}
 use Rattle.tree.proofs.WalkOnly.{walked-only}
 
@@ -20,6 +23,10 @@ module _ {s : List ℕ} {n : ℕ} (t : Net s n) where
 
   pub walk-all : {m : ℕ} {parent half order place : List ℕ} → Walked (firstEnd s) (secondEnd s) (n - 1) m parent half order place → m ≡ n
   walk-all w = reached-all (firstEnd s) (secondEnd s) (n - 1) n _ _ _ _ _ (t .few) (t .some) fit w (t .joined)
+
+  -- each two nodes have a simple path
+  pub net-simple : {a b : ℕ} → a < n → b < n → Simple (firstEnd s) (secondEnd s) (First (n - 1)) a b
+  net-simple {a} {b} ha hb = simple (firstEnd s) (secondEnd s) (joined-trans (firstEnd s) (secondEnd s) (joined-sym (firstEnd s) (secondEnd s) (t .joined a ha)) (t .joined b hb))
 
   module _ {parent half order place : List ℕ} (w : Walked (firstEnd s) (secondEnd s) (n - 1) n parent half order place) where
     pub walk-grown : Grown n parent order place

@@ -1,7 +1,7 @@
 -- A net hung up at node 0: every row is the row of one of its ends; along any row but t's own, below t stays below t; from this a step away and two climbs.
 use Prim.Native.Nat.{ℕ, zero, suc, _+_, _*_, _≤_, _<_}
 use mathlib.Core.Path.{_≡_, refl, sym, ap, _∙_}
-use mathlib.Core.Logic.{_⊎_, inl, inr, _≢_}
+use mathlib.Core.Logic.{_⊎_, inl, inr, _≢_, ⊎-elim}
 use mathlib.Core.List.{List, [], _∷_, _++_}
 use native.Mathlib.Omega.{arith}
 use native.Mathlib.Decide.{ℕ-discrete}
@@ -19,6 +19,14 @@ use Rattle.tree.proofs.Erase.{simple}
 pub above-inv : {par : ℕ → ℕ} {t x : ℕ} → Above par t x → (t ≡ x) ⊎ ((x ≢ 0) × Above par t (par x))
 above-inv self = inl refl
 above-inv (up z e h) = inr (z, rw e h)
+
+-- only the root is above the root
+pub root-top : {par : ℕ → ℕ} {x : ℕ} → x ≢ 0 → ¬ Above par x 0
+root-top z h = ⊎-elim z (λ q. q .0 refl) (above-inv h)
+
+pub above-more : {par : ℕ → ℕ} {x y : ℕ} → x ≢ 0 → Above par x y → Above par (par x) y
+above-more z self = up z refl self
+above-more z (up m e h) = up m e (above-more z h)
 
 pub sum-snoc : (f : ℕ → ℕ) (rs : List ℕ) (r : ℕ) → Sum f (rs ++ (r ∷ [])) ≡ Sum f rs + f r
 sum-snoc f [] r = omega arith
@@ -150,10 +158,6 @@ module _ (u v : ℕ → ℕ) where
 
     -- Lengths: d is the distance from the root
     module _ (f : ℕ → ℕ) (d : ℕ → ℕ) (d-up : (x : ℕ) → x < n → x ≢ 0 → d x ≡ d (par x) + f (row x)) where
-      above-more : {x y : ℕ} → x ≢ 0 → Above par x y → Above par (par x) y
-      above-more z self = up z refl self
-      above-more z (up m e h) = up m e (above-more z h)
-
       climb-len : {t x w l : ℕ} → w < n → Above par w x → Len u v f k x w l → l + d w ≡ d x → Above par t w → (m : ℕ) × Len u v f k x t m × (m + d t ≡ d x)
       climb-len {l} b a p e self = (l, p, e)
       climb-len {t} {x} {w} {l} b a p e (up {y} z q h) =
