@@ -20,11 +20,15 @@ pub head-above : {n : ℕ} {par : ℕ → ℕ} {h x : ℕ} → Head (Child n par
 head-above (top b o) = self
 head-above (down m h) = up (m .child .low) (m .child .of) (head-above h)
 
+-- where a child has one parent, a node has one head
+pub head-only : {C : ℕ → ℕ → Type 0} {n : ℕ} → ((p q c : ℕ) → C p c → C q c → p ≡ q) → {h g x : ℕ} → Head C n h x → Head C n g x → h ≡ g
+head-only one (top b o) (top b′ o′) = refl
+head-only one (top b o) (down {p} m k) = absurd (o p m)
+head-only one (down {p} m k) (top b o) = absurd (o p m)
+head-only one (down {h} {p} {x} m k) (down {p = q} m′ k′) = head-only one k (rw (one q p x (m′ .child) (m .child)) at k′)
+
 pub head-one : {n : ℕ} {par : ℕ → ℕ} {h g x : ℕ} → Head (Child n par) n h x → Head (Child n par) n g x → h ≡ g
-head-one (top b o) (top b′ o′) = refl
-head-one (top b o) (down {p} m k) = absurd (o p m)
-head-one (down {p} m k) (top b o) = absurd (o p m)
-head-one (down m k) (down m′ k′) = head-one k (rw (sym (m′ .child .of) ∙ m .child .of) at k′)
+head-one k l = head-only (λ p q c i j. sym (i .of) ∙ j .of) k l
 
 pub head-own : {n : ℕ} {par : ℕ → ℕ} {h x : ℕ} → Head (Child n par) n h x → Head (Child n par) n h h
 head-own (top b o) = top b o

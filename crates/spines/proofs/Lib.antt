@@ -13,3 +13,5 @@ pub mod Leaving
 pub mod Same
 pub mod Net
 pub mod HopsBound
+pub mod Copying
+pub mod HeadsOnly

@@ -1,13 +1,17 @@
--- The children by the walk's parents are the children of the net. So a node's head by the walk's arrays is its head, and each node has one.
-use Prim.Native.Nat.{ℕ, _<_}
-use mathlib.Core.Path.{_≡_, refl}
+-- The children by the walk's parents are the children of the net. So a node's head by the walk's arrays is its head; and each node has one.
+use Prim.Native.Nat.{ℕ, _+_, _<_}
+use mathlib.Core.Path.{_≡_, refl, sym, ap, _∙_}
 use mathlib.Core.Logic.{_⊎_, inl, inr, _≢_, ⊎-elim}
-use mathlib.Core.List.{_∷_}
+use mathlib.Core.List.{List, [], _∷_, _++_}
 use native.Mathlib.Omega.{arith}
 use Rattle.tree.specs.Members.{In}
-use Rattle.tree.specs.Graph.{Ends}
+use Rattle.tree.specs.Graph.{Ends, Forest}
 use Rattle.tree.specs.Rooted.{Above, self, up, Rooted}
-use Rattle.tree.proofs.Rows.{ends-flip}
+use Rattle.tree.proofs.Members.{distinct-snoc}
+use Rattle.tree.proofs.Rows.{ends-flip, other}
+use Rattle.tree.proofs.Joined.{walk-snoc}
+use lib.ListN.{length, getD, length-append}
+use lib.Seq.{getD-append-add}
 use Rattle.tree.proofs.OnePath.{unique}
 use Rattle.tree.proofs.Rooted.{above-inv, owner}
 use Rattle.tree.proofs.Above.{Tree, above-trans, fits-up, place-up}
@@ -15,8 +19,24 @@ use Rattle.tree.proofs.Climbs.{root-above}
 use Rattle.tree.proofs.Route.{Route, route}
 use Rattle.spines.specs.Spine.{ChildOf, Head}
 use Rattle.spines.specs.Parents.{Child}
-use Rattle.spines.proofs.Head.{head-one}
+use Rattle.spines.proofs.Head.{head-only}
 use Rattle.spines.proofs.Same.{same-head}
+
+snoc-last : (l m : List ℕ) (a b : ℕ) → l ++ (a ∷ []) ≡ m ++ (b ∷ []) → a ≡ b
+snoc-last l m a b e =
+    let h : length l ≡ length m = omega (arith, simp length-append at (ap length e)) in
+    sym (getD-append-add l (a ∷ []) 0 0) ∙ ap (λ k. getD k (length l + 0) 0) e ∙ ap (λ i. getD (m ++ (b ∷ [])) (i + 0) 0) h ∙ getD-append-add m (b ∷ []) 0 0
+
+-- a child has one parent, since the path from the root to it is one
+pub parent-only : {u v : ℕ → ℕ} {k n : ℕ} → Forest u v k → (p q c : ℕ) → ChildOf u v k n p c → ChildOf u v k n q c → p ≡ q
+parent-only {u} {v} F p q c i j =
+    let e = unique u v F (walk-snoc u v (i .walk) (i .low) (i .ends)) (walk-snoc u v (j .walk) (j .low) (j .ends)) (distinct-snoc (0 ∷ i .nodes) c (i .once) (i .new)) (distinct-snoc (0 ∷ j .nodes) c (j .once) (j .new)) in
+    let r : i .row ≡ j .row = snoc-last (i .rows) (j .rows) (i .row) (j .row) (e .0) in
+    other u v (ends-flip u v (rw r at (i .ends))) (ends-flip u v (j .ends))
+
+-- each node has one head
+pub net-head-only : {u v : ℕ → ℕ} {k n : ℕ} → Forest u v k → {h g x : ℕ} → Head (ChildOf u v k n) n h x → Head (ChildOf u v k n) n g x → h ≡ g
+net-head-only F p q = head-only (parent-only F) p q
 
 module _ {u v : ℕ → ℕ} {k n : ℕ} {par row place : ℕ → ℕ} (R : Rooted u v k n par row place) (T : Tree n par place) (some : 0 < n) where
   -- the path from the root to x, whose nodes are those above x
@@ -71,7 +91,3 @@ module _ {u v : ℕ → ℕ} {k n : ℕ} {par row place : ℕ → ℕ} (R : Root
 
   pub net-head : {h x : ℕ} → Head (ChildOf u v k n) n h x → Head (Child n par) n h x
   net-head k = same-head net-child child-net k
-
-  -- each node has one head
-  pub net-head-one : {h g x : ℕ} → Head (ChildOf u v k n) n h x → Head (ChildOf u v k n) n g x → h ≡ g
-  net-head-one p q = head-one (net-head p) (net-head q)

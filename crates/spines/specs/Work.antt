@@ -1,4 +1,4 @@
--- Working statements of private functions, no part of the promises: leaf counts, and the main children as the sweep over node numbers finds them.
+-- Working statements of private functions, no part of the promises: leaf counts, the main children as the sweep over node numbers finds them, and copying the heads.
 use Prim.Native.Nat.{ℕ, _≤_, _<_}
 use mathlib.Core.Path.{_≡_}
 use mathlib.Core.Logic.{_≢_}
@@ -40,3 +40,8 @@ pub record Taken (leaves : List ℕ) (q c r : ℕ) : Type 0 where
 pub record Follows (v q h r : ℕ) : Type 0 where
   pub same : q ≡ v → r ≡ h
   pub own : q ≢ v → r ≡ v
+
+-- the list holds the first of what the array holds, as many as it is long
+pub record Copied (head before list : List ℕ) : Type 0 where
+  pub long : length list ≡ length before
+  pub each : (i : ℕ) → i < length before → at list i ≡ at head i

@@ -12,11 +12,12 @@ use Rattle.table.specs.declared.Refusal.{Refusal}
 use Rattle.table.specs.declared.Opening.the-variants.{Opened}
 use Rattle.table.proofs.Refusals.{past, past-rows, unless-only, first-bad-only, unless-map, first-bad-map}
 use Rattle.table.specs.Row.{rowAt}
-use Rattle.table.proofs.Accepted.{Good, good, accepted, header-past, past-header, tested-map}
+use Rattle.table.proofs.Accepted.{Headed, Good, good, accepted, header-past, past-header, tested-map}
 use Rattle.table.proofs.Accepted as table
 use Rattle.table.proofs.Only.{tested-only}
 use Rattle.tree.specs.Net.{firstEnd, secondEnd, lengthOf, weightOf, Net}
-use Rattle.tree.specs.Accept.{RingNumber, Rings, Begins, outcome, Accepts}
+use Rattle.table.specs.Examine.{RowNumber}
+use Rattle.tree.specs.Accept.{RingNumber, Whole, Rings, Begins, outcome, Accepts}
 use Rattle.tree.specs.Work.{Readable, Fitting, FirstRing, Reaches}
 use Rattle.tree.specs.declared.Acceptance.the-variants as variants
 use Rattle.tree.proofs.Grown.{reached-all, all-joined}
@@ -76,30 +77,32 @@ pub record Admitted (s : List ℕ) (n b : ℕ) : Type 0 where
   pub nodes : n ≡ nodesOf s
   pub bound : b ≡ boundOf s
 
+net-of : (s : List ℕ) → Headed s → ((r : ℕ) → r < nodesOf s - 1 → RowNumber (nodesOf s) (rowAt s r) 0) → ((r : ℕ) → r < nodesOf s - 1 → RingNumber s r 0) → Whole s (nodesOf s) → Net s (nodesOf s)
+unfolding firstEnd secondEnd lengthOf weightOf
+net-of s h rows rings whole =
+    let g : (r : ℕ) → r < nodesOf s - 1 → Good (nodesOf s) (rowAt s r) = λ r l. good (nodesOf s) (rowAt s r) (rows r l) in
+    record {
+      some = h .some;
+      few = h .few;
+      stands = λ r l. omega (arith, h .size);
+      first = λ r l. g r l .first;
+      second = λ r l. g r l .second;
+      apart = λ r l. g r l .apart;
+      short = λ r l. g r l .long;
+      within = λ r l. g r l .weight-within;
+      forest = λ r l. past (λ e. omega (arith, e)) (rings r l) .0;
+      joined = whole;
+    }
+
 module _ {A : Type 0} (refuse : ℕ → ℕ → A) (s : List ℕ) {rest : A → Type 0} {x : A} (plain : (k r : ℕ) → (k ≡ 0 → ⊥) → refuse k r ≡ x → ⊥) where
   -- an outcome that is no refusal comes of an accepted net
   pub begins-past : Begins A refuse s rest x → Net s (nodesOf s) × rest x
-  unfolding firstEnd secondEnd lengthOf weightOf
   begins-past p =
       let h = header-past refuse {s = s} plain p in
       let q = past-rows plain (h .1) in
       let t = past-rows plain (q .1) in
       let e = past (plain 12 0 (λ e. omega (arith, e))) (t .1) in
-      let g : (r : ℕ) → r < nodesOf s - 1 → Good (nodesOf s) (rowAt s r) = λ r l. good (nodesOf s) (rowAt s r) (q .0 r l) in (
-        record {
-          some = h .0 .some;
-          few = h .0 .few;
-          stands = λ r l. omega (arith, h .0 .size);
-          first = λ r l. g r l .first;
-          second = λ r l. g r l .second;
-          apart = λ r l. g r l .apart;
-          short = λ r l. g r l .long;
-          within = λ r l. g r l .weight-within;
-          forest = λ r l. past (λ e. omega (arith, e)) (t .0 r l) .0;
-          joined = e .0;
-        },
-        e .1,
-      )
+      (net-of s (h .0) (q .0) (t .0) (e .0), e .1)
 
 pub admitted : (s : List ℕ) (n b : ℕ) → Accepts s (outcome (variants.Accepted n b)) → Admitted s n b
 admitted s n b p =
@@ -123,6 +126,15 @@ module _ {A : Type 0} (refuse : ℕ → ℕ → A) {rest : A → Type 0} (s : Li
 -- One outcome
 pub begins-only : {A : Type 0} (refuse : ℕ → ℕ → A) (s : List ℕ) {rest : A → Type 0} → Only rest → Only (Begins A refuse s rest)
 begins-only refuse s o = tested-only refuse s (first-bad-only (λ i. unless-only (λ x y p q. p ∙ sym q)) (unless-only o))
+
+-- the same where the rest allows one outcome of an accepted net
+pub begins-net-only : {A : Type 0} (refuse : ℕ → ℕ → A) (s : List ℕ) {rest : A → Type 0} → (Net s (nodesOf s) → Only rest) → Only (Begins A refuse s rest)
+begins-net-only {A} refuse s {rest} o x y p q = begins-only refuse s {rest = λ z. Net s (nodesOf s) × rest z} (λ a b h k. o (h .0) a b (h .1) (k .1)) x y (with-net x p) (with-net y q)
+  where
+    with-net : (z : A) → Begins A refuse s rest z → Begins A refuse s (λ z. Net s (nodesOf s) × rest z) z
+    with-net z p = unless-map (λ o. o) (λ a. unless-map (λ o. o) (λ b. unless-map (λ o. o) (λ c. unless-map (λ o. o) (λ d. unless-map (λ o. o) (λ e. unless-map (λ o. o) (λ f.
+        first-bad-map (λ o. o) (λ rows. first-bad-map (λ o. o) (λ rings. unless-map (λ o. o) (λ whole r.
+        (net-of s (record { long = a; letters = b; version = c; some = d .0; few = d .1; reserved = e; size = f }) rows rings whole, r)))))))))) p
 
 pub accept-only : (s : List ℕ) → Only (Accepts s)
 accept-only s = begins-only refusal s (λ x y p q. p ∙ sym q)

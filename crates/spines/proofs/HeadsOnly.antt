@@ -1,0 +1,41 @@
+-- The operation heads: from the heads by the walk's arrays to those of the net; and its promise allows one outcome.
+use Prim.Native.Nat.{ℕ, _-_}
+use mathlib.Core.Path.{_≡_, refl, sym, _∙_}
+use mathlib.Core.List.{List}
+use native.Mathlib.Omega.{arith}
+use lib.ListN.{length}
+use lib.Seq.{ext-getD}
+use Rattle.arrays.specs.Filled.{at}
+use Rattle.table.specs.Refuse.{Only, passed}
+use Rattle.table.specs.Header.{nodesOf}
+use Rattle.table.proofs.Refusals.{unless-only}
+use Rattle.tree.specs.Net.{firstEnd, secondEnd, Net}
+use Rattle.tree.specs.Walked.{Walked}
+use Rattle.tree.proofs.Grown.{grown-tree}
+use Rattle.tree.proofs.NetWalk.{walk-grown, walk-rooted}
+use Rattle.tree.proofs.Begins.{begins-net-only}
+use Rattle.spines.specs.Heads.{refusal, outcome, Heads, Lists, Headings}
+use Rattle.spines.specs.Parents.{HeadsAll}
+use Rattle.spines.specs.Work.{Copied}
+use Rattle.spines.specs.declared.HeadsAnswer.the-variants.{Written}
+use Rattle.spines.proofs.Net.{head-net, net-head-only}
+
+pub heads-listed : (s : List ℕ) (n : ℕ) {parent half order place head before list : List ℕ} → Net s n → Walked (firstEnd s) (secondEnd s) (n - 1) n parent half order place
+    → HeadsAll n parent head → Copied head before list → length before ≡ n → Lists s before n (outcome Written list)
+heads-listed s n {list} t w h c e =
+    passed {x = outcome Written list}
+    e
+    (record {
+      number = refl;
+      row = refl;
+      long = c .long ∙ e;
+      each = λ v b. rw (c .each v (omega (arith, e))) (head-net (walk-rooted t w) (grown-tree (walk-grown t w)) (t .some) (h .each v b));
+    })
+
+heads-one : (s : List ℕ) (n : ℕ) → Net s n → Only (Heads s n)
+heads-one s n t x y p q =
+    let e : x .list ≡ y .list = ext-getD 0 (x .list) (y .list) (p .long ∙ sym (q .long)) (λ i b. net-head-only (t .forest) (p .each i (rw (p .long) at b)) (q .each i (rw (p .long) at b))) in
+    λ i. record { number = (p .number ∙ sym (q .number)) i; row = (p .row ∙ sym (q .row)) i; list = e i }
+
+pub heads-only : (s before : List ℕ) → Only (Headings s before)
+heads-only s before = begins-net-only (refusal before) s (λ t. unless-only (heads-one s (nodesOf s) t))

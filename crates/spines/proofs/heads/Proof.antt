@@ -1,0 +1,39 @@
+-- `heads` meets its contract: a refusal of 1 to 12 is handed on, and an accepted net goes on to 20 and the heads.
+use Rattle.tree.proofs.Begins.{admitted, refused-on, passed-on}
+use Rattle.spines.specs.Heads.{refusal}
+use borrow.Author.Needs.{needs}
+use Rattle.spines.proofs.heads.Statement.{statement}
+use Rattle.spines.proofs.heads.Tie as tie
+
+accept-requires : tie.Need-accept-requires
+accept-requires c κs = search needs
+
+enum-known-a : tie.Need-enum-known-a
+enum-known-a c = search needs
+
+enum-known-a-2 : tie.Need-enum-known-a-2
+enum-known-a-2 c = search needs
+
+list-heads-requires : tie.Need-list-heads-requires
+list-heads-requires c κs = admitted (c .before .before .before .before .before .before .before .args .s .now) _ _ (rw (c .before .before .a2 .given .1) at (c .before .before .before .before .accept .ensures)) .net
+
+returns : tie.Need-returns
+returns c = refused-on (refusal (c .before .before .before .before .before .before .args .list .now)) (c .before .before .before .before .before .before .args .s .now) _ (rw (c .before .a .given .1) at (c .before .before .before .accept .ensures))
+
+same-length : tie.Need-same-length
+same-length c = search needs
+
+returns-2 : tie.Need-returns-2
+returns-2 c = let p = rw (c .before .before .before .before .before .a2 .given .1) at (c .before .before .before .before .before .before .before .accept .ensures) in passed-on (refusal (c .before .before .before .before .before .before .before .before .before .before .args .list .now)) (c .before .before .before .before .before .before .before .before .before .before .args .s .now) _ _ p (rw (admitted (c .before .before .before .before .before .before .before .before .before .before .args .s .now) _ _ p .nodes) at (c .before .before .list-heads .ensures))
+
+pub heads-spec : {M : Type 1} → statement M
+heads-spec =
+    tie.close
+    (tie.spec
+    accept-requires
+    enum-known-a
+    enum-known-a-2
+    list-heads-requires
+    returns
+    same-length
+    returns-2)

@@ -1,0 +1,41 @@
+-- `list_heads` meets its contract: 20 by the list's length; else the heads by the walk's arrays are those of the net, and all of them are copied.
+use Rattle.table.specs.Refuse.{refused}
+use Rattle.tree.proofs.NetWalk.{walk-grown}
+use Rattle.spines.proofs.HeadsOnly.{heads-listed}
+use native.Mathlib.Omega.{arith}
+use borrow.Author.Needs.{needs}
+use Rattle.spines.proofs.list_heads.Statement.{statement}
+use Rattle.spines.proofs.list_heads.Tie as tie
+
+wide-requires : tie.Need-wide-requires
+wide-requires c κs = search needs
+
+returns : tie.Need-returns
+returns c = refused (λ e. omega (arith, e, c .before .wide .ensures .0))
+
+walk-requires : tie.Need-walk-requires
+walk-requires c κs = search needs
+
+heads-of-requires : tie.Need-heads-of-requires
+heads-of-requires c κs = rw (c .before .before .before .before .before .before .before .before .before .before .wide .ensures .0) (walk-grown (c .before .before .before .before .before .before .before .before .before .before .before .before .before .pre) (c .before .before .before .before .walk .ensures))
+
+copy-requires : tie.Need-copy-requires
+copy-requires c κs = search needs
+
+same-length : tie.Need-same-length
+same-length c = search needs
+
+returns-2 : tie.Need-returns-2
+returns-2 c = heads-listed _ _ (c .before .before .before .before .before .before .before .before .before .before .before .before .before .before .before .before .before .before .before .pre) (c .before .before .before .before .before .before .before .before .before .before .walk .ensures) (rw (c .before .before .before .before .before .before .before .before .before .before .before .before .before .before .before .before .wide .ensures .0) at (c .before .before .before .before .before .heads-of .ensures)) (c .before .before .copy .ensures) (omega (arith, c .before .before .before .before .before .before .before .before .before .before .before .before .before .before .before .before .wide .ensures .0))
+
+pub list-heads-spec : {M : Type 1} → statement M
+list-heads-spec =
+    tie.close
+    (tie.spec
+    wide-requires
+    returns
+    walk-requires
+    heads-of-requires
+    copy-requires
+    same-length
+    returns-2)
