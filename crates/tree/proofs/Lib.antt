@@ -10,7 +10,6 @@ pub mod Labels
 pub mod Counts
 pub mod Rooted
 pub mod Values
-pub mod TwoClimbs
 pub mod Net
 pub mod Union
 pub mod Chains

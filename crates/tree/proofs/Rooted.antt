@@ -1,13 +1,13 @@
--- A net hung up at node 0: every row is the row of one of its ends; along any row but t's own, below t stays below t; from this a step away and two climbs.
-use Prim.Native.Nat.{ℕ, zero, suc, _+_, _*_, _≤_, _<_}
+-- A net hung up at node 0: every row is the row of one of its ends; along any row but t's own, below t stays below t; from this a step away.
+use Prim.Native.Nat.{ℕ, zero, suc, _+_, _≤_, _<_}
 use mathlib.Core.Path.{_≡_, refl, sym, ap, _∙_}
-use mathlib.Core.Logic.{_⊎_, inl, inr, _≢_, ⊎-elim}
+use mathlib.Core.Logic.{_⊎_, inl, inr, _≢_}
 use mathlib.Core.List.{List, [], _∷_, _++_}
 use native.Mathlib.Omega.{arith}
 use native.Mathlib.Decide.{ℕ-discrete}
 use Rattle.tree.specs.Members.{In, at, past, Distinct}
 use Rattle.tree.specs.Graph.{First, But, Ends, Walk, stop, go, Joined, Closes}
-use Rattle.tree.specs.Path.{Sum, Path, Len}
+use Rattle.tree.specs.Path.{Sum, Path}
 use Rattle.tree.specs.Rooted.{Above, self, up, Rooted}
 use Rattle.tree.proofs.Members.{not-nil, distinct-snoc}
 use Rattle.tree.proofs.Rows.{ends-flip, ends-left, ends-one, other}
@@ -19,14 +19,6 @@ use Rattle.tree.proofs.Erase.{simple}
 pub above-inv : {par : ℕ → ℕ} {t x : ℕ} → Above par t x → (t ≡ x) ⊎ ((x ≢ 0) × Above par t (par x))
 above-inv self = inl refl
 above-inv (up z e h) = inr (z, rw e h)
-
--- only the root is above the root
-pub root-top : {par : ℕ → ℕ} {x : ℕ} → x ≢ 0 → ¬ Above par x 0
-root-top z h = ⊎-elim z (λ q. q .0 refl) (above-inv h)
-
-pub above-more : {par : ℕ → ℕ} {x y : ℕ} → x ≢ 0 → Above par x y → Above par (par x) y
-above-more z self = up z refl self
-above-more z (up m e h) = up m e (above-more z h)
 
 pub sum-snoc : (f : ℕ → ℕ) (rs : List ℕ) (r : ℕ) → Sum f (rs ++ (r ∷ [])) ≡ Sum f rs + f r
 sum-snoc f [] r = omega arith
@@ -155,31 +147,3 @@ module _ (u v : ℕ → ℕ) where
 
       pub path-up : {x : ℕ} {rs : List ℕ} → Above par t x → Path u v k x rs t → Path u v k x (rs ++ (row t ∷ [])) (par t)
       path-up h p = let q = away-up h (p .1) (p .2) in (p .0 ++ (par t ∷ []), q .0, q .1)
-
-    -- Lengths: d is the distance from the root
-    module _ (f : ℕ → ℕ) (d : ℕ → ℕ) (d-up : (x : ℕ) → x < n → x ≢ 0 → d x ≡ d (par x) + f (row x)) where
-      climb-len : {t x w l : ℕ} → w < n → Above par w x → Len u v f k x w l → l + d w ≡ d x → Above par t w → (m : ℕ) × Len u v f k x t m × (m + d t ≡ d x)
-      climb-len {l} b a p e self = (l, p, e)
-      climb-len {t} {x} {w} {l} b a p e (up {y} z q h) =
-          let s : Len u v f k x (par w) (l + f (row w)) = (p .0 ++ (row w ∷ []), path-up w b z a (p .1), sum-snoc f (p .0) (row w) ∙ ap (λ c. c + f (row w)) (p .2)) in
-          climb-len (rw q at (T .par-fits w b z)) (rw q at (above-more z a)) (rw q at s) (omega (arith, e, d-up w b z, ap d q)) h
-
-      -- Two climbs
-      pub two-climbs : {t x y : ℕ} → x < n → y < n → Above par t x → Above par t y → ((z : ℕ) → Above par t z → Above par z y → z ≢ t → ¬ Above par z x) → (l : ℕ) × Len u v f k x y l × (l + 2 * d t ≡ d x + d y)
-      two-climbs {t} {x} bx by a self n =
-          let m = climb-len bx self ([], ([], stop, (not-nil, tt)), refl) (omega arith) a in
-          (m .0, m .1, omega (arith, m .2))
-      two-climbs {t} {x} {y} bx by a (up {y = p} z q h) n =
-          down (two-climbs bx (rw q at (T .par-fits y by z)) a h (λ w g k m. n w g (up z q k) m))
-        where
-          below : y ≢ t
-          below e = omega (arith, above-place (rw q at (T .par-fits y by z)) h, rw q at (T .earlier y by z), ap place e)
-
-          out : ¬ Above par y x
-          out = n y (up z q h) self below
-
-          put : {rs : List ℕ} → Path u v k x rs p → Path u v k x rs (par y)
-          put w = rw q w
-
-          down : (l : ℕ) × Len u v f k x p l × (l + 2 * d t ≡ d x + d p) → (l : ℕ) × Len u v f k x y l × (l + 2 * d t ≡ d x + d y)
-          down s = (s .0 + f (row y), (s .1 .0 ++ (row y ∷ []), path-down y by z out (put (s .1 .1)), sum-snoc f (s .1 .0) (row y) ∙ ap (λ c. c + f (row y)) (s .1 .2)), omega (arith, s .2, d-up y by z, ap d q))

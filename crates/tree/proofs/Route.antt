@@ -1,22 +1,36 @@
--- The simple path between two nodes whose climbs meet at t: up the one climb and down the other. Its nodes are those of the two climbs, and a sum along it is that
--- of the two climbs.
+-- Two climbs: the simple path between two nodes whose climbs meet at t goes up the one and down the other. Its nodes are those of the two climbs, and a sum along it,
+-- of naturals (lengths) or signed (weights), is that of the two climbs less twice that of t.
 use Prim.Native.Nat.{ℕ, _+_, _*_, _<_}
 use mathlib.Core.Path.{_≡_, refl, ap}
 use mathlib.Core.Logic.{_⊎_, inl, inr, _≢_, ⊎-elim}
 use mathlib.Core.List.{List, [], _∷_, _++_}
 use native.Mathlib.Omega.{arith}
+use lib.IntN.{ℤ}
+use Rattle.table.specs.Signed.{Diff}
+use Rattle.table.specs.Signed as signed
+use Rattle.table.proofs.Lift as lift
 use Rattle.tree.specs.Members.{In, at, past, Distinct}
 use Rattle.tree.specs.Graph.{First, Walk, stop}
 use Rattle.tree.specs.Path.{Sum}
+use Rattle.tree.specs.Value.{Total, Value}
 use Rattle.tree.specs.Rooted.{Above, self, up, Rooted}
 use Rattle.tree.proofs.Members.{not-nil, in-left, in-right, in-either}
 use Rattle.tree.proofs.Rooted.{above-inv, sum-snoc, away-up, away-down}
+use Rattle.tree.proofs.Values.{total-snoc}
 use Rattle.tree.proofs.Above.{Tree, above-trans, above-anti, fits-up, place-up}
 use Rattle.tree.proofs.Climbs.{Passed, Climbs, step-split}
 
 -- d x is the sum of f along the climb from x to the root
 abbrev pub Sums : (ℕ → ℕ) → (ℕ → ℕ) → ℕ → (ℕ → ℕ) → (ℕ → ℕ) → Type 0
 Sums par row n f d = (x : ℕ) → x < n → x ≢ 0 → d x ≡ d (par x) + f (row x)
+
+-- e x − e 0 is the signed sum of g along that climb: e is it lifted
+abbrev pub Totals : (ℕ → ℕ) → (ℕ → ℕ) → ℕ → (ℕ → ℤ) → (ℕ → ℕ) → Type 0
+Totals par row n g e = (x : ℕ) → x < n → x ≢ 0 → Diff (e x) (e (par x)) (g (row x))
+
+nothing : (g : ℕ → ℤ) (a : ℕ) → Diff a a (Total g [])
+unfolding Total
+nothing g a = signed.up 0 (omega arith)
 
 module _ {u v : ℕ → ℕ} {k n : ℕ} {par row place : ℕ → ℕ} (R : Rooted u v k n par row place) (T : Tree n par place) where
   -- one climb
@@ -29,6 +43,7 @@ module _ {u v : ℕ → ℕ} {k n : ℕ} {par row place : ℕ → ℕ} (R : Root
     only : (z : ℕ) → In z (x ∷ nodes) → Above par w z × Above par z x
     all : (z : ℕ) → Above par w z → Above par z x → In z (x ∷ nodes)
     sum : (f d : ℕ → ℕ) → Sums par row n f d → Sum f rows + d w ≡ d x
+    total : (g : ℕ → ℤ) (e : ℕ → ℕ) → Totals par row n g e → Diff (e x) (e w) (Total g rows)
 
   up-start : (x : ℕ) → x < n → Up x x
   up-start x b = record {
@@ -40,6 +55,7 @@ module _ {u v : ℕ → ℕ} {k n : ℕ} {par row place : ℕ → ℕ} (R : Root
     only = only;
     all = λ z h g. at (above-anti T b g h);
     sum = λ f d s. omega arith;
+    total = λ g e s. nothing g (e x);
   }
     where
       only : (z : ℕ) → In z (x ∷ []) → Above par x z × Above par z x
@@ -59,6 +75,7 @@ module _ {u v : ℕ → ℕ} {k n : ℕ} {par row place : ℕ → ℕ} (R : Root
         only = λ z i. ⊎-elim (λ j. let o = p .only z j in (above-trans (up q refl self) (o .0), o .1)) (λ j. last z j) (in-either (x ∷ p .nodes) i);
         all = λ z h g. ⊎-elim (λ s. in-left (par w ∷ []) (p .all z s g)) (λ e. in-right (x ∷ p .nodes) (at e)) (step-split T b q (p .above) h g);
         sum = λ f d s. omega (arith, sum-snoc f (p .rows) (row w), p .sum f d s, s w fw q);
+        total = λ g e s. rw (total-snoc g (p .rows) (row w)) (lift.same (omega arith) (lift.sum (p .total g e s) (s w fw q)));
       }
     where
       last : (z : ℕ) → In z (par w ∷ []) → Above par (par w) z × Above par z x
@@ -78,6 +95,7 @@ module _ {u v : ℕ → ℕ} {k n : ℕ} {par row place : ℕ → ℕ} (R : Root
     pub only : (z : ℕ) → In z (x ∷ nodes) → Above par t z × (Above par z x ⊎ Above par z y)
     pub all : (z : ℕ) → Above par t z → Above par z x ⊎ Above par z y → In z (x ∷ nodes)
     pub sum : (f d : ℕ → ℕ) → Sums par row n f d → Sum f rows + 2 * d t ≡ d x + d y
+    pub total : (g : ℕ → ℤ) (e : ℕ → ℕ) → Totals par row n g e → Diff (e x + e y) (2 * e t) (Total g rows)
 
   pub route : {t x y : ℕ} → x < n → y < n → Above par t x → Above par t y → ((z : ℕ) → Passed par t x z → Passed par t y z → ⊥) → Route t x y
   route {t} {x} b c h self n =
@@ -90,6 +108,7 @@ module _ {u v : ℕ → ℕ} {k n : ℕ} {par row place : ℕ → ℕ} (R : Root
         only = λ z i. let o = p .only z i in (o .0, inl (o .1));
         all = λ z g s. p .all z g (⊎-elim (λ a. a) (λ a. above-trans a h) s);
         sum = λ f d s. omega (arith, p .sum f d s);
+        total = λ g e s. lift.same (omega arith) (p .total g e s);
       }
   route {t} {x} {y} b c h (up {y = m} q e j) dis =
       more (route b (rw e at (T .fits y c q)) h j (λ z f g. dis z f (record { above = up q e (g .above); below = g .below; not = g .not })))
@@ -120,6 +139,7 @@ module _ {u v : ℕ → ℕ} {k n : ℕ} {par row place : ℕ → ℕ} (R : Root
             only = λ z i. ⊎-elim (λ j. let o = p .only z j in (o .0, wider (o .1))) (λ j. last z j) (in-either (x ∷ p .nodes) i);
             all = all;
             sum = λ f d s. omega (arith, sum-snoc f (p .rows) (row y), p .sum f d s, s y c q, ap d e);
+            total = λ g o s. rw (total-snoc g (p .rows) (row y)) (lift.same (omega (arith, ap o e)) (lift.sum (p .total g o s) (s y c q)));
           }
         where
           all : (z : ℕ) → Above par t z → Above par z x ⊎ Above par z y → In z (x ∷ (p .nodes ++ (y ∷ [])))
@@ -129,3 +149,7 @@ module _ {u v : ℕ → ℕ} {k n : ℕ} {par row place : ℕ → ℕ} (R : Root
   -- where two climbs have met
   pub met : {x y t : ℕ} → Climbs n par place x y t t → Route t x y
   met c = route (c .fits-x) (c .fits-y) (c .left) (c .right) (c .apart)
+
+  -- it has a length and a weight
+  pub route-value : {long : ℕ → ℕ} {heavy : ℕ → ℤ} {t x y : ℕ} (r : Route t x y) → Value u v k long heavy x y (Sum long (r .rows)) (Total heavy (r .rows))
+  route-value r = record { rows = r .rows; path = (r .nodes, r .walk, r .once); length = refl; weight = refl }

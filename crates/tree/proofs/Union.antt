@@ -85,10 +85,6 @@ module _ (us vs : ℕ → ℕ) (rows : ℕ) (up rank : List ℕ) where
     apart n j = n (s .whole p q (f .within) (g .within) (f .root) (g .root) (joined-trans _ _ (joined-sym _ _ ju) (joined-trans _ _ j jv)))
 
 module _ (us vs : ℕ → ℕ) (rows : ℕ) (up rank : List ℕ) (r a b : ℕ) (s : Seen us vs rows r up rank) (in-a : a < 4096) (in-b : b < 4096) (n : a ≢ b) (ra : at up a ≡ a) (rb : at up b ≡ b) where
-  one : (us r ≡ us r) → (x : ℕ) → x < 4096 → at up x ≡ x → x ≢ a → (e : ℕ) → Joined us vs (First r) x e → Joined us vs (First r) e a ⊎ Joined us vs (First r) e b → x ≡ b
-  one _ x h rx m e j (inl k) = absurd (m (s .whole x a h in-a rx ra (joined-trans _ _ j k)))
-  one _ x h rx m e j (inr k) = s .whole x b h in-b rx rb (joined-trans _ _ j k)
-
   pub seen-link : (up₂ rank₂ : List ℕ) → r < rows → Linked a b up rank up₂ rank₂ → Joined us vs (First (suc r)) a b → ¬ Joined us vs (First r) (us r) (vs r) → ((e : ℕ) → End us vs r e → Joined us vs (First r) e a ⊎ Joined us vs (First r) e b) → Seen us vs rows (r + 1) up₂ rank₂
   seen-link up₂ rank₂ lt l j apart ends = rw add-one (record {
     within = lt;
@@ -148,9 +144,14 @@ module _ (us vs : ℕ → ℕ) (rows : ℕ) (up rank : List ℕ) (r a b : ℕ) (
           pick (yes q) = absurd (n (sym (sym la ∙ (rw q at e))))
           pick (no m) = (sym (lo x m) ∙ e, m)
 
+      -- a root other than a that is joined to an end of the row is b
+      one : (x : ℕ) → x < 4096 → Plain x → (e : ℕ) → Joined us vs (First r) x e → Joined us vs (First r) e a ⊎ Joined us vs (First r) e b → x ≡ b
+      one x h p e j (inl k) = absurd (p .1 (s .whole x a h in-a (p .0) ra (joined-trans _ _ j k)))
+      one x h p e j (inr k) = s .whole x b h in-b (p .0) rb (joined-trans _ _ j k)
+
       both : (x y : ℕ) → x < 4096 → y < 4096 → Plain x → Plain y → Joined us vs (First r) x y ⊎ ((e : ℕ) × (d : ℕ) × End us vs r e × End us vs r d × Joined us vs (First r) x e × Joined us vs (First r) d y) → x ≡ y
       both x y hx hy px py (inl w) = s .whole x y hx hy (px .0) (py .0) w
-      both x y hx hy px py (inr c) = one refl x hx (px .0) (px .1) (c .0) (c .4) (ends (c .0) (c .2)) ∙ sym (one refl y hy (py .0) (py .1) (c .1) (joined-sym _ _ (c .5)) (ends (c .1) (c .3)))
+      both x y hx hy px py (inr c) = one x hx px (c .0) (c .4) (ends (c .0) (c .2)) ∙ sym (one y hy py (c .1) (joined-sym _ _ (c .5)) (ends (c .1) (c .3)))
 
       pick-forest : (x : ℕ) → x < suc r → Dec (x ≡ r) → ¬ Joined us vs (First x) (us x) (vs x)
       pick-forest x h (yes e) = rw e apart

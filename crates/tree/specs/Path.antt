@@ -1,6 +1,5 @@
 -- The simple path between two nodes, and the sum of what its rows have.
 use Prim.Native.Nat.{ℕ, _+_}
-use mathlib.Core.Path.{_≡_}
 use mathlib.Core.List.{List, [], _∷_}
 use Rattle.tree.specs.Members.{Distinct}
 use Rattle.tree.specs.Graph.{First, Walk}
@@ -13,7 +12,3 @@ module _ (u v : ℕ → ℕ) where
   -- the rows rs, of the first k, lead from x to y and meet no node twice
   abbrev pub Path : ℕ → ℕ → List ℕ → ℕ → Type 0
   Path k x rs y = (ns : List ℕ) × Walk u v (First k) x rs ns y × Distinct (x ∷ ns)
-
-  -- and what f gives for each of them adds up to l
-  abbrev pub Len : (ℕ → ℕ) → ℕ → ℕ → ℕ → ℕ → Type 0
-  Len f k x y l = (rs : List ℕ) × Path k x rs y × (Sum f rs ≡ l)
