@@ -10,7 +10,7 @@ use Rattle.spines.proofs.sweeps.follow_mains.Statement.{statement}
 use Rattle.spines.proofs.sweeps.follow_mains.Tie as tie
 
 abbrev Inv-loop : tie.InvT-loop
-Inv-loop parent order place leaves main n head₀ i₀ head i = Heads n parent place i head × Grown n parent order place × LeavesAll n parent leaves × Bests n parent leaves n main × (0 < i)
+Inv-loop parent order place leaves main n head₀ i₀ head i = Heads n parent order i head × Grown n parent order place × LeavesAll n parent leaves × Bests n parent leaves n main × (0 < i)
 
 abbrev μ-loop : tie.MeasureT-loop
 μ-loop parent order place leaves main n head₀ i₀ head i = n - i
