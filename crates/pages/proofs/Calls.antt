@@ -3,22 +3,24 @@ use Prim.Native.Nat.{ℕ, _+_, _-_, _*_, _/_, _≤_, _<_}
 use mathlib.Core.Path.{_≡_, refl, ap}
 use mathlib.Core.List.{List, [], _∷_, _++_}
 use native.Mathlib.Omega.{arith}
-use lib.ListN.{length, getD, drop, length-append, take-append-drop}
+use lib.ListN.{length, getD, take, drop, length-append, take-append-drop}
+use lib.Seq.{take-append-seam}
 use Rattle.table.specs.Bytes.{u16At}
 use Rattle.pages.specs.Listing.{Entry, In, at}
 use Rattle.pages.specs.Page.{Run, ends, goes}
-use Rattle.pages.specs.Bytes.{row}
+use Rattle.pages.specs.Bytes.{row, rows}
 use Rattle.pages.specs.Calls.{Paged, Calls, done, again}
 use Rattle.pages.proofs.Members.{in-left, in-right}
-use Rattle.pages.proofs.Pages.{page-full, snoc}
-use Rattle.pages.proofs.Rows.{row-nodes, last-row}
+use Rattle.pages.proofs.Pages.{page-full, next-fewer, snoc}
+use Rattle.pages.proofs.Rows.{rows-length, row-nodes, last-row}
 
 module _ {P : Entry → Type 0} (small : (e : Entry) → P e → (e .low < 65536) × (e .high < 65536)) where
-  pub calls-run : {s t : ℕ} {joined : List Entry} → Calls P s t joined → Run P s t joined
-  calls-run (done {old} h c) = ends {room = length old / 16} (omega arith) (c .page)
-  calls-run (again {s} {t} {given} {left} {old} {now} {later} h c z r) =
+  -- where some are left, the last row given, and its two nodes read out of the bytes
+  last-given : {s t given left : ℕ} {old now : List ℕ} → 16 ≤ length old → (c : Paged P s t old given left now) → 0 < left
+      → (front : List Entry) × (e : Entry) × (c .some ≡ front ++ e ∷ []) × (u16At now (16 * (given - 1)) ≡ e .low) × (u16At now (16 * (given - 1) + 2) ≡ e .high)
+  last-given {given = given} {old = old} {now = now} h c z =
       let w = snoc (c .some) (omega (arith, page-full {room = length old / 16} z (c .page))) in
-      goes {room = length old / 16} (w .0) (w .1) (omega arith) (c .page) z (w .2) (rw (first-is (w .0) (w .1) (w .2), second-is (w .0) (w .1) (w .2)) at (calls-run r))
+      (w .0, w .1, w .2, first-is (w .0) (w .1) (w .2), second-is (w .0) (w .1) (w .2))
     where
       last-in : (front : List Entry) (e : Entry) → c .some ≡ front ++ e ∷ [] → P e
       last-in front e q =
@@ -36,3 +38,22 @@ module _ {P : Entry → Type 0} (small : (e : Entry) → P e → (e .low < 65536
       second-is : (front : List Entry) (e : Entry) → c .some ≡ front ++ e ∷ [] → u16At now (16 * (given - 1) + 2) ≡ e .high
       second-is front e q =
           rw (byte front e q (16 * (given - 1) + 2) 2 refl (omega arith), byte front e q (16 * (given - 1) + 2 + 1) 3 (omega arith) (omega arith), row-nodes e .2, row-nodes e .3) (omega (arith, small e (last-in front e q) .1))
+
+  pub calls-run : {s t : ℕ} {joined : List Entry} → Calls P s t joined → Run P s t joined
+  calls-run (done {old} h c) = ends {room = length old / 16} (omega arith) (c .page)
+  calls-run (again {old} h c z r) =
+      let w = last-given h c z in
+      goes {room = length old / 16} (w .0) (w .1) (omega arith) (c .page) z (w .2) (rw (w .3, w .4) at (calls-run r))
+
+  -- each call begins with fewer to give than the one before
+  pub calls-fewer : {s t given left given₂ left₂ : ℕ} {old now old₂ now₂ : List ℕ} → 16 ≤ length old → Paged P s t old given left now → 0 < left → 16 ≤ length old₂
+      → Paged P (u16At now (16 * (given - 1))) (u16At now (16 * (given - 1) + 2)) old₂ given₂ left₂ now₂ → left₂ < left
+  calls-fewer {old₂} h c z h₂ d =
+      let w = last-given h c z in
+      next-fewer (w .0) (w .1) (c .page) z (w .2) (omega arith) (rw (w .3, w .4) at (d .page))
+
+-- what a call wrote
+pub paged-written : {P : Entry → Type 0} {s t given left : ℕ} {old now : List ℕ} (c : Paged P s t old given left now) → take (16 * given) now ≡ rows (c .some)
+paged-written {given = given} {old = old} c =
+    let e : 16 * given ≡ length (rows (c .some)) = omega (arith, c .count, rows-length (c .some)) in
+    rw (c .bytes, e) (take-append-seam (rows (c .some)) (drop (length (rows (c .some))) old))

@@ -1,18 +1,19 @@
 -- DEMAND 3: the pages of a listing join up to the whole.
 -- For whatever Value says of a path's length and weight, over any length test, any weight test and n nodes; Passes, Listing, Page, Run, Paged and Calls are the meanings of specs/.
-use Prim.Native.Nat.{ℕ, _+_, _≤_, _<_}
+use Prim.Native.Nat.{ℕ, _+_, _-_, _*_, _≤_, _<_}
 use mathlib.Core.Path.{_≡_}
 use mathlib.Core.List.{List}
 use native.Mathlib.Omega.{arith}
 use lib.IntN.{ℤ}
 use lib.ListN.{length}
+use Rattle.table.specs.Bytes.{u16At}
 use Rattle.pages.specs.Listing.{Entry, Listing}
 use Rattle.pages.specs.Passes.{Passes}
 use Rattle.pages.specs.Page.{Following, Page, Run}
 use Rattle.pages.specs.Calls.{Paged, Calls}
 use Rattle.pages.proofs.Listings.{listing-only}
 use Rattle.pages.proofs.Pages.{run-listing, whole-follows, page-count, Asked, run-exists}
-use Rattle.pages.proofs.Calls.{calls-run}
+use Rattle.pages.proofs.Calls.{calls-run, calls-fewer}
 
 module _ {Value : ℕ → ℕ → ℕ → ℤ → Type 0} {Within : ℕ → Type 0} {Heavy : ℤ → Type 0} {n : ℕ} where
   -- Pages asked for from (0, 0) until none is left, each with room for one row or more, each going on after the last row given, join up to the listing: every qualifying pair, lower node first, each once, in order.
@@ -38,6 +39,12 @@ module _ {Value : ℕ → ℕ → ℕ → ℤ → Type 0} {Within : ℕ → Type
 
   pub calls-add-up : {s t given left : ℕ} {old now : List ℕ} {whole : List Entry} → Paged (Passes Value Within Heavy n) s t old given left now → Listing (Following (Passes Value Within Heavy n) s t) whole → given + left ≡ length whole
   calls-add-up c w = rw (c .count) (add-up (c .page) w)
+
+  -- Calls come to an end: each begins with fewer to give than the one before.
+  module _ (few : n ≤ 65536) where
+    pub fewer-left : {s t given left given₂ left₂ : ℕ} {old now old₂ now₂ : List ℕ} → 16 ≤ length old → Paged (Passes Value Within Heavy n) s t old given left now → 0 < left → 16 ≤ length old₂
+        → Paged (Passes Value Within Heavy n) (u16At now (16 * (given - 1))) (u16At now (16 * (given - 1) + 2)) old₂ given₂ left₂ now₂ → left₂ < left
+    fewer-left h c z h₂ d = calls-fewer (λ e p. (omega (arith, p .pair, p .node), omega (arith, p .node))) h c z h₂ d
 
   -- There is one such list.
   pub one-listing : {joined whole : List Entry} → Listing (Passes Value Within Heavy n) joined → Listing (Passes Value Within Heavy n) whole → joined ≡ whole

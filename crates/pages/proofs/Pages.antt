@@ -66,6 +66,14 @@ module _ {P : Entry → Type 0} where
       → Page P (e .low) (e .high) room₂ given₂ left₂ → length given₂ + left₂ ≡ left
   next-left {room} front e p z q p₂ = omega (arith, page-count p₂ (page-next front e p q), length-drop room (p .rows), ap length (p .fit), length-take room (p .rows), p .rest)
 
+  pub next-fewer : {s t room room₂ left left₂ : ℕ} {given given₂ : List Entry} (front : List Entry) (e : Entry) → Page P s t room given left → 0 < left → given ≡ front ++ e ∷ []
+      → 1 ≤ room₂ → Page P (e .low) (e .high) room₂ given₂ left₂ → left₂ < left
+  next-fewer {room₂} {left} {left₂} {given₂} front e p z q k p₂ = pick (decLt 0 left₂) (next-left front e p z q p₂)
+    where
+      pick : Dec (0 < left₂) → length given₂ + left₂ ≡ left → left₂ < left
+      pick (yes y) h = omega (arith, page-full y p₂)
+      pick (no y) h = omega arith
+
   pub page-only : {s t room left left₂ : ℕ} {given given₂ : List Entry} → Page P s t room given left → Page P s t room given₂ left₂ → (given ≡ given₂) × (left ≡ left₂)
   page-only {room} {given} {given₂} p q = (rows, omega (arith, ap length rows, p .rest, q .rest, ap length (listing-only (p .all) (q .all))))
     where
@@ -99,16 +107,8 @@ module _ {P : Entry → Type 0} (rooms : ℕ → ℕ) (some : (i : ℕ) → 1 �
       pick (yes z) ih =
           let g = snoc (a .given) (omega (arith, page-full z (a .page), some i)) in
           let b = ask (g .1 .low) (g .1 .high) (rooms (i + 1)) (some (i + 1)) in
-          let f : 0 < b .left → length (b .given) ≡ rooms (i + 1) = λ y. page-full y (b .page) in
-          let r = ih _ _ b (less b f (next-left (g .0) (g .1) (a .page) z (g .2) (b .page))) in
+          let r = ih _ _ b (omega (arith, next-fewer (g .0) (g .1) (a .page) z (g .2) (some (i + 1)) (b .page))) in
           (a .given ++ r .0, goes (g .0) (g .1) (some i) (a .page) z (g .2) (r .1))
-        where
-          less : {s t : ℕ} (b : Asked P s t (rooms (i + 1))) → (0 < b .left → length (b .given) ≡ rooms (i + 1)) → length (b .given) + b .left ≡ a .left → b .left ≤ k
-          less b f e = side (decLt 0 (b .left))
-            where
-              side : Dec (0 < b .left) → b .left ≤ k
-              side (yes y) = omega (arith, f y, some (i + 1))
-              side (no y) = omega arith
 
   pub run-exists : (s t : ℕ) → (joined : List Entry) × Run P s t joined
   run-exists s t = let a = ask s t (rooms 0) (some 0) in from (a .left) 0 s t a (omega arith)

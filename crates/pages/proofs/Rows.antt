@@ -25,10 +25,14 @@ unfolding rows
 rows-length [] = refl
 rows-length (e ∷ l) = omega (arith, length-append (row e) (rows l), row-length e, rows-length l)
 
+pub rows-append : (l m : List Entry) → rows (l ++ m) ≡ rows l ++ rows m
+unfolding rows
+rows-append [] m = refl
+rows-append (x ∷ l) m = rw (rows-append l m) (sym (append-assoc (row x) (rows l) (rows m)))
+
 pub rows-end : (l : List Entry) (e : Entry) → rows (l ++ e ∷ []) ≡ rows l ++ row e
 unfolding rows
-rows-end [] e = simp (append-nil)
-rows-end (x ∷ l) e = rw (rows-end l e) (sym (append-assoc (row x) (rows l) (row e)))
+rows-end l e = rw (rows-append l (e ∷ []), append-nil (row e)) refl
 
 -- a turn of the loop that stores bytes: what is left to do makes the same as before
 pub bytes-step : (out : List ℕ) (p j y : ℕ) → 0 < j → sets (set out p (y % 256)) (p + 1) (bytes (j - 1) (y / 256)) ≡ sets out p (bytes j y)

@@ -1,0 +1,59 @@
+-- DEMAND 3 of the operation listing: for one table, one set of marks and any floor, calls from (0, 0) until none is left, each lending 16 bytes or more, each going on after the last row given, write the whole listing: every qualifying pair, lower node first, each once, in order. Over any length test; today's is "at most B".
+use Prim.Native.Nat.{ℕ, _+_, _≤_, _<_}
+use mathlib.Core.Path.{_≡_, ap, _∙_}
+use mathlib.Core.List.{List, _++_}
+use native.Mathlib.Omega.{arith}
+use lib.IntN.{ℤ}
+use lib.ListN.{length}
+use Rattle.table.specs.Header.{nodesOf}
+use Rattle.tree.specs.Net.{Net}
+use Rattle.pages.specs.Listing.{Entry, Listing}
+use Rattle.pages.specs.Passes.{Qualifies}
+use Rattle.pages.specs.Page.{Following}
+use Rattle.pages.specs.Bytes.{rows}
+use Rattle.pages.specs.Calls.{Paged, Calls, done, again}
+use Rattle.pages.proofs.Rows.{rows-append}
+use Rattle.pages.proofs.Calls.{paged-written}
+use Rattle.pages.proofs.Demand3 as pages
+use Rattle.answers.specs.PathOf.{PathOf}
+use Rattle.answers.specs.Listing.{Outcome, ListingWithin}
+use Rattle.answers.specs.Asks.{lastLow, lastHigh, Asks, last, next}
+use Rattle.answers.proofs.ListingOnly.{listing-page}
+
+-- what a listing of the table s considers
+abbrev pub Considered : (ℕ → Type 0) → List ℕ → List ℕ → ℤ → Entry → Type 0
+Considered Within s marks floor = Qualifies (PathOf s marks (nodesOf s)) Within floor (nodesOf s)
+
+module _ (Within : ℕ → Type 0) (s marks : List ℕ) (floor : ℤ) where
+  -- the calls' bytes are the rows of calls as the pages crate has them
+  as-calls : {low high : ℕ} {joined : List ℕ} → Asks Within s marks floor low high joined → (entries : List Entry) × Calls (Considered Within s marks floor) low high entries × (joined ≡ rows entries) × Net s (nodesOf s)
+  as-calls (last {low} {high} {old} {x} h p z e) =
+      let n = listing-page Within s marks floor low high old x z p in
+      let c : Paged (Considered Within s marks floor) low high old (x .written) 0 (x .bytes) = rw e at (n .1) in
+      (c .some, done h c, paged-written c, n .0)
+  as-calls (next {low} {high} {old} {later} {x} h p z l r) =
+      let n = listing-page Within s marks floor low high old x z p in
+      let t = as-calls r in
+      (n .1 .some ++ t .0, again h (n .1) l (t .1), joins (n .1 .some) (t .0) (paged-written (n .1)) (t .2), n .0)
+    where
+      joins : {a b : List ℕ} (l m : List Entry) → a ≡ rows l → b ≡ rows m → a ++ b ≡ rows (l ++ m)
+      joins l m p q = rw (p, q, rows-append l m)
+
+  -- The calls from (0, 0) write the rows of the listing, and of no other list.
+  pub join-up : {joined : List ℕ} {whole : List Entry} → Asks Within s marks floor 0 0 joined → Listing (Considered Within s marks floor) whole → joined ≡ rows whole
+  join-up a w = let t = as-calls a in t .2 ∙ ap rows (pages.one-listing (pages.calls-join-up (omega (arith, t .3 .few)) (t .1)) w)
+
+  -- There is such a list wherever the calls came to their end.
+  pub there-is : {joined : List ℕ} → Asks Within s marks floor 0 0 joined → (whole : List Entry) × Listing (Considered Within s marks floor) whole
+  there-is a = let t = as-calls a in (t .0, pages.calls-join-up (omega (arith, t .3 .few)) (t .1))
+
+  -- At each call rows written and rows left add up to what follows its starting pair.
+  pub add-up : {low high : ℕ} {old : List ℕ} {x : Outcome} {whole : List Entry} → ListingWithin Within s marks floor low high old x → x .number ≡ 0 → Listing (Following (Considered Within s marks floor) low high) whole → x .written + x .left ≡ length whole
+  add-up p z w = pages.calls-add-up (listing-page Within s marks floor _ _ _ _ z p .1) w
+
+  -- The calls come to their end: each leaves fewer than the one before.
+  pub fewer-left : {low high : ℕ} {old old₂ : List ℕ} {x y : Outcome} → 16 ≤ length old → ListingWithin Within s marks floor low high old x → x .number ≡ 0 → 0 < x .left
+      → 16 ≤ length old₂ → ListingWithin Within s marks floor (lastLow x) (lastHigh x) old₂ y → y .number ≡ 0 → y .left < x .left
+  fewer-left h p z l h₂ q z₂ =
+      let n = listing-page Within s marks floor _ _ _ _ z p in
+      pages.fewer-left (omega (arith, n .0 .few)) h (n .1) l h₂ (listing-page Within s marks floor _ _ _ _ z₂ q .1)

@@ -1,0 +1,6 @@
+-- Laws and theorems of the operations, by topic. Demand 3 of the listing stands in Demand3.
+pub mod Demand3
+pub mod ListingOnly
+pub mod Holders
+pub mod Branching
+pub mod Scanning

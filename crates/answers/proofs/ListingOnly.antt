@@ -1,0 +1,40 @@
+-- The listing's promise allows one outcome, under any length test; and an outcome without a number is a page of an accepted net.
+use Prim.Native.Nat.{ℕ}
+use mathlib.Core.Path.{_≡_, sym, ap, _∙_}
+use mathlib.Core.List.{List}
+use native.Mathlib.Omega.{arith}
+use lib.IntN.{ℤ}
+use Rattle.table.specs.Refuse.{Only}
+use Rattle.table.specs.Header.{nodesOf}
+use Rattle.table.proofs.Refusals.{unless-only, past}
+use Rattle.tree.specs.Net.{Net}
+use Rattle.tree.proofs.Begins.{begins-only, begins-past}
+use Rattle.pages.specs.Listing.{Entry}
+use Rattle.pages.specs.Passes.{Qualifies}
+use Rattle.pages.specs.Calls.{Paged}
+use Rattle.pages.proofs.Only.{paged-only}
+use Rattle.answers.specs.PathOf.{PathOf}
+use Rattle.answers.specs.Listing.{Outcome, refusal, Lists, ListingWithin, ListingOf}
+
+lists-only : (P : Entry → Type 0) (low high : ℕ) (old : List ℕ) → Only (Lists P low high old)
+lists-only P low high old x y a b =
+    let e = paged-only (a .page) (b .page) in
+    let n : x .number ≡ y .number = a .number ∙ sym (b .number) in
+    let r : x .row ≡ y .row = a .row ∙ sym (b .row) in
+    λ i. record { number = n i; row = r i; written = e .0 i; left = e .1 i; bytes = e .2 i }
+
+pub listing-within-only : (Within : ℕ → Type 0) (s marks : List ℕ) (floor : ℤ) (low high : ℕ) (old : List ℕ) → Only (ListingWithin Within s marks floor low high old)
+listing-within-only Within s marks floor low high old = begins-only (refusal old) s (unless-only (unless-only (lists-only _ low high old)))
+
+pub listing-only : (s marks : List ℕ) (floor : ℤ) (low high : ℕ) (old : List ℕ) → Only (ListingOf s marks floor low high old)
+listing-only s = listing-within-only _ s
+
+-- what a call that is not refused gives
+module _ (Within : ℕ → Type 0) (s marks : List ℕ) (floor : ℤ) (low high : ℕ) (old : List ℕ) (x : Outcome) (z : x .number ≡ 0) where
+  plain : (k r : ℕ) → (k ≡ 0 → ⊥) → refusal old k r ≡ x → ⊥
+  plain k r m e = m (ap (λ (o : Outcome). o .number) e ∙ z)
+
+  pub listing-page : ListingWithin Within s marks floor low high old x → Net s (nodesOf s) × Paged (Qualifies (PathOf s marks (nodesOf s)) Within floor (nodesOf s)) low high old (x .written) (x .left) (x .bytes)
+  listing-page p =
+      let n = begins-past (refusal old) s plain p in
+      (n .0, past (plain 17 0 (λ e. omega arith)) (past (plain 13 0 (λ e. omega arith)) (n .1) .1) .1 .page)

@@ -1,0 +1,45 @@
+-- `answers::listing` begins with acceptance: a refusal is handed on, and an accepted net goes on.
+use borrow.Author.Needs.{needs}
+use mir.Syntax.{w64}
+use mir.ValLaws.{toZ-ofZ}
+use Rattle.tree.proofs.Begins.{admitted, refused-on, passed-on}
+use Rattle.answers.specs.Listing.{refusal}
+use Rattle.answers.proofs.listing.Statement.{statement}
+use Rattle.answers.proofs.listing.Tie as tie
+
+accept-requires : tie.Need-accept-requires
+accept-requires c κs = search needs
+
+enum-known-o : tie.Need-enum-known-o
+enum-known-o c = search needs
+
+enum-known-o-2 : tie.Need-enum-known-o-2
+enum-known-o-2 c = search needs
+
+go-on-requires : tie.Need-go-on-requires
+go-on-requires c κs = admitted _ _ _ (rw (c .before .before .o2 .given .1) at (c .before .before .before .before .accept .ensures)) .net
+
+returns : tie.Need-returns
+returns c = refused-on (refusal _) _ _ (rw (c .before .o .given .1) at (c .before .before .before .accept .ensures))
+
+same-length : tie.Need-same-length
+same-length c = search needs
+
+returns-2 : tie.Need-returns-2
+returns-2 c =
+    let p = rw (c .before .before .before .before .before .o2 .given .1) at (c .before .before .before .before .before .before .before .accept .ensures) in
+    let a = admitted _ _ _ p in
+    let e = toZ-ofZ w64 (c .before .before .before .before .before .before .before .before .before .before .before .args .floor) (c .before .before .before .before .before .before .before .before .before .before .before .fits .floor) in
+    passed-on (refusal _) _ _ _ p (rw (e, a .nodes, a .bound) at (c .before .before .go-on .ensures))
+
+pub listing-spec : {M : Type 1} → statement M
+listing-spec =
+    tie.close
+    (tie.spec
+    accept-requires
+    enum-known-o
+    enum-known-o-2
+    go-on-requires
+    returns
+    same-length
+    returns-2)

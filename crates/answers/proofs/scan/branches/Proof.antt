@@ -1,0 +1,103 @@
+-- `answers::scan::branches` reads each node's row. The invariant: the nodes below x have theirs.
+use Prim.Native.Nat.{_-_, _/_, _≤_, _<_}
+use mathlib.Core.Path.{refl, ap, _∙_}
+use native.Mathlib.Omega.{arith}
+use borrow.Author.Needs.{needs}
+use Rattle.tree.proofs.Net.{reads-length}
+use Rattle.marks.proofs.Weights.{under-lifts, under-small}
+use Rattle.answers.specs.Work.{Readable, Branches}
+use Rattle.answers.proofs.Branching.{branches-none, branches-more, branches-all, row-in}
+use Rattle.answers.proofs.scan.branches.Statement.{statement}
+use Rattle.answers.proofs.scan.branches.Tie as tie
+
+abbrev Inv-loop : tie.InvT-loop
+Inv-loop s marks half n bl₀ bw₀ x₀ bl bw x = Branches s marks half x bl bw × Readable s n half × (0 < x) × (n ≤ 4096)
+
+abbrev μ-loop : tie.MeasureT-loop
+μ-loop s marks half n bl₀ bw₀ x₀ bl bw x = n - x
+
+fill-long-requires : tie.Need-fill-long-requires Inv-loop μ-loop
+fill-long-requires c κs = search needs
+
+fill-long-requires-2 : tie.Need-fill-long-requires-2 Inv-loop μ-loop
+fill-long-requires-2 c κs = search needs
+
+loop-holds : tie.Need-loop-holds Inv-loop μ-loop
+loop-holds c = (branches-none (c .before .before .fill-long .ensures) (c .fill-long2 .ensures), c .before .before .before .before .before .before .pre, omega arith, c .before .before .before .before .before .before .pre .net .few)
+
+mul-wide : tie.Need-mul-wide Inv-loop μ-loop
+mul-wide c = omega arith
+
+element-copy-out-wide : tie.Need-element-copy-out-wide Inv-loop μ-loop
+element-copy-out-wide c = omega arith
+
+wide-requires : tie.Need-wide-requires Inv-loop μ-loop
+wide-requires c κs = search needs
+
+row-at-requires : tie.Need-row-at-requires Inv-loop μ-loop
+row-at-requires c κs = search needs
+
+long-requires : tie.Need-long-requires Inv-loop μ-loop
+long-requires c κs = search needs
+
+lifted-under-requires : tie.Need-lifted-under-requires Inv-loop μ-loop
+lifted-under-requires c κs = search needs
+
+long-requires-2 : tie.Need-long-requires-2 Inv-loop μ-loop
+long-requires-2 c κs = search needs
+
+mul-bl : tie.Need-mul-bl Inv-loop μ-loop
+mul-bl c = omega (arith, c .before .before .before .before .before .before .before .loop .inv .0 .bl-long, c .before .before .before .before .before .before .before .loop .inv .0 .bw-long)
+
+element-write-bl : tie.Need-element-write-bl Inv-loop μ-loop
+element-write-bl c = omega (arith, c .before .before .before .before .before .before .before .loop .inv .0 .bl-long, c .before .before .before .before .before .before .before .loop .inv .0 .bw-long)
+
+mul-bw : tie.Need-mul-bw Inv-loop μ-loop
+mul-bw c = omega (arith, c .before .before .before .before .before .before .before .loop .inv .0 .bl-long, c .before .before .before .before .before .before .before .loop .inv .0 .bw-long)
+
+element-write-bw : tie.Need-element-write-bw Inv-loop μ-loop
+element-write-bw c = omega (arith, c .before .before .before .before .before .before .before .loop .inv .0 .bl-long, c .before .before .before .before .before .before .before .loop .inv .0 .bw-long)
+
+add-x : tie.Need-add-x Inv-loop μ-loop
+add-x c = omega arith
+
+loop-less : tie.Need-loop-less Inv-loop μ-loop
+loop-less c = omega arith
+
+loop-again : tie.Need-loop-again Inv-loop μ-loop
+loop-again c =
+    let t = c .before .before .before .before .before .before .before .loop .inv .1 .net in
+    let h = row-in (c .before .before .before .before .before .before .before .loop .inv .1) (c .before .before .before .before .before .before .before .loop .inv .2) (c .before .before .before .before .before .before .loop-test .taken) (c .before .before .before .before .wide .ensures .0) in (
+      branches-more _ _ _ (omega arith) (ap (λ h. h / 2) (c .before .before .before .before .wide .ensures .0)) (c .before .before .long .ensures .0 ∙ reads-length (t .stands _ h) (c .before .before .before .row-at .ensures)) (rw (c .long2 .ensures .0) (under-lifts t h (c .before .lifted-under .ensures))) (omega (arith, c .long2 .ensures .0, under-small t h (c .before .lifted-under .ensures))) (c .before .before .before .before .before .before .before .loop .inv .0),
+      c .before .before .before .before .before .before .before .loop .inv .1,
+      omega arith,
+      c .before .before .before .before .before .before .before .loop .inv .3,
+    )
+
+returns : tie.Need-returns Inv-loop μ-loop
+returns c = branches-all (c .loop-test .left) (c .before .loop .inv .0)
+
+pub branches-spec : {M : Type 1} → statement M
+branches-spec =
+    tie.close
+    (tie.spec
+    Inv-loop
+    μ-loop
+    fill-long-requires
+    fill-long-requires-2
+    loop-holds
+    mul-wide
+    element-copy-out-wide
+    wide-requires
+    row-at-requires
+    long-requires
+    lifted-under-requires
+    long-requires-2
+    mul-bl
+    element-write-bl
+    mul-bw
+    element-write-bw
+    add-x
+    loop-less
+    loop-again
+    returns)

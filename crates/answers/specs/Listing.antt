@@ -1,0 +1,51 @@
+-- The operation listing: refusals 1 to 12, then 13 and 17; then the page.
+use Prim.Native.Nat.{ℕ, _-_, _≤_}
+use mathlib.Core.Path.{_≡_}
+use mathlib.Core.List.{List}
+use lib.IntN.{ℤ}
+use lib.ListN.{length}
+use Rattle.table.specs.Refuse.{Unless}
+use Rattle.table.specs.Header.{nodesOf, boundOf}
+use Rattle.tree.specs.Accept.{Begins}
+use Rattle.pages.specs.Listing.{Entry}
+use Rattle.pages.specs.Passes.{Qualifies}
+use Rattle.pages.specs.Calls.{Paged}
+use Rattle.answers.specs.PathOf.{PathOf}
+use Rattle.answers.specs.declared.Listed.{Listed}
+use Rattle.answers.specs.declared.Listed.the-variants.{Rows, Refused}
+
+-- all that a call leaves: the paper's number and row, rows written and left over, and the lent bytes
+pub record Outcome : Type 0 where
+  pub number : ℕ
+  pub row : ℕ
+  pub written : ℕ
+  pub left : ℕ
+  pub bytes : List ℕ
+
+abbrev pub outcome : Listed → List ℕ → Outcome
+outcome (Rows w l) now = record { number = 0; row = 0; written = w; left = l; bytes = now }
+outcome (Refused r) now = record { number = r .number; row = r .row; written = 0; left = 0; bytes = now }
+
+-- a refusal leaves the lent bytes as they were
+abbrev pub refusal : List ℕ → ℕ → ℕ → Outcome
+refusal old k r = record { number = k; row = r; written = 0; left = 0; bytes = old }
+
+-- a page of what qualifies, from the starting pair on
+pub record Lists (P : Entry → Type 0) (low high : ℕ) (old : List ℕ) (o : Outcome) : Type 0 where
+  pub number : o .number ≡ 0
+  pub row : o .row ≡ 0
+  pub page : Paged P low high old (o .written) (o .left) (o .bytes)
+
+-- 13 and 17, then the page, of a net of n nodes under any length test
+abbrev pub Goes : (ℕ → Type 0) → List ℕ → ℕ → List ℕ → ℤ → ℕ → ℕ → List ℕ → Outcome → Type 0
+Goes Within s n marks floor low high old =
+    Unless Outcome (refusal old 13 0) (length marks ≡ n - 1)
+    (Unless Outcome (refusal old 17 0) (16 ≤ length old)
+    (Lists (Qualifies (PathOf s marks n) Within floor n) low high old))
+
+-- the whole promise, under any length test; and the listing's own: at most B
+abbrev pub ListingWithin : (ℕ → Type 0) → List ℕ → List ℕ → ℤ → ℕ → ℕ → List ℕ → Outcome → Type 0
+ListingWithin Within s marks floor low high old = Begins Outcome (refusal old) s (Goes Within s (nodesOf s) marks floor low high old)
+
+abbrev pub ListingOf : List ℕ → List ℕ → ℤ → ℕ → ℕ → List ℕ → Outcome → Type 0
+ListingOf s = ListingWithin (λ l. l ≤ boundOf s) s

@@ -1,0 +1,117 @@
+// The scan of an accepted net: for each first node from the start's on, the paths to all nodes, and of the second nodes those that pass.
+ghost use Prim.Native.Nat.{_≤_};
+ghost use Rattle.tree.specs.Net.{Net};
+ghost use Rattle.pages.specs.Passes.{Qualifies};
+ghost use Rattle.pages.specs.Calls.{Paged};
+ghost use Rattle.paths.specs.Ground.{Ground};
+ghost use Rattle.answers.specs.PathOf.{PathOf};
+ghost use Rattle.answers.specs.Work.{ValueIn, Readable, Branches};
+use pages::Count;
+
+// For each node but 0 the length and the lifted weight of the branch to its parent, a marked one as the marks crate has it.
+fn branches(
+    s: &[u8],
+    marks: &[u16],
+    half: &[u16; 4096],
+    n: usize,
+    bl: &mut [u64; 4096],
+    bw: &mut [u64; 4096],
+)
+    requires { ⌜ Readable (now s) n (now half) ⌝ }
+    ensures { λ _. ⌜ Branches (now (s .entry)) (now (marks .entry)) (now (half .entry)) n (now (bl .exit)) (now (bw .exit)) ⌝ }
+{
+    arrays::fill_long(bl, 0);
+    arrays::fill_long(bw, 0);
+    let mut x: usize = 1;
+    while x < n {
+        let r = arrays::wide(half[x]) / 2;
+        let q = table::row_at(s, r);
+        let l = arrays::long(q.length);
+        let w = arrays::long(marks::lifted_under(s, marks, r));
+        bl[x] = l;
+        bw[x] = w;
+        x += 1;
+    }
+}
+
+// The first nodes in turn, from the start's on.
+fn firsts(
+    parent: &[u16; 4096],
+    order: &[u16; 4096],
+    place: &[u16; 4096],
+    bl: &[u64; 4096],
+    bw: &[u64; 4096],
+    n: usize,
+    bound: u64,
+    floor: i64,
+    low: usize,
+    high: usize,
+    rows: &mut [u8],
+) -> Count
+    requires { ⌜ Ground n (now parent) (now order) (now place) (now bl) (now bw) ⌝ }
+    ensures { λ r. ⌜ ((g : Ground n (now (parent .entry)) (now (order .entry)) (now (place .entry)) (now (bl .entry)) (now (bw .entry))) → Paged (Qualifies (ValueIn g) (λ l. l ≤ bound) floor n) low high (now (rows .entry)) (r .given) (r .left) (now (rows .exit))) ⌝ }
+{
+    let mut above: [u16; 4096] = [0; 4096];
+    let mut len: [u64; 4096] = [0; 4096];
+    let mut wt: [u64; 4096] = [0; 4096];
+    let room = rows.len() / 16;
+    let f = pages::raised(floor);
+    let mut k = Count { given: 0, left: 0 };
+    let mut u = low;
+    while u < n {
+        paths::paths_from(
+            parent,
+            order,
+            place,
+            bl,
+            bw,
+            n,
+            u,
+            &mut above,
+            &mut len,
+            &mut wt,
+        );
+        let from = pages::first_second(low, high, u, n);
+        k = pages::seconds(rows, room, &len, &wt, u, from, n, bound, f, k);
+        u += 1;
+    }
+    k
+}
+
+// A page of an accepted net.
+pub(crate) fn page(
+    s: &[u8],
+    marks: &[u16],
+    nodes: u16,
+    bound: u32,
+    floor: i64,
+    low: u16,
+    high: u16,
+    rows: &mut [u8],
+) -> Count
+    requires { ⌜ Net (now s) nodes ⌝ }
+    ensures { λ r. ⌜ Paged (Qualifies (PathOf (now (s .entry)) (now (marks .entry)) nodes) (λ l. l ≤ bound) floor nodes) low high (now (rows .entry)) (r .given) (r .left) (now (rows .exit)) ⌝ }
+{
+    let mut parent: [u16; 4096] = [4096; 4096];
+    let mut half: [u16; 4096] = [0; 4096];
+    let mut order: [u16; 4096] = [0; 4096];
+    let mut place: [u16; 4096] = [0; 4096];
+    let mut bl: [u64; 4096] = [0; 4096];
+    let mut bw: [u64; 4096] = [0; 4096];
+    tree::walk(s, nodes, &mut parent, &mut half, &mut order, &mut place);
+    let n = arrays::wide(nodes);
+    branches(s, marks, &half, n, &mut bl, &mut bw);
+    firsts(
+        &parent,
+        &order,
+        &place,
+        &bl,
+        &bw,
+        n,
+        arrays::long(bound),
+        floor,
+        arrays::wide(low),
+        arrays::wide(high),
+        rows,
+    )
+}
