@@ -1,21 +1,24 @@
 -- Hops are the heads that two climbs pass, and one: a path has one number of hops, and never more than 1 + 2 × floor(log2 of the number of leaves).
-use Prim.Native.Nat.{ℕ, _+_, _*_, _≤_, _<_}
-use mathlib.Core.Path.{_≡_}
+use Prim.Native.Nat.{ℕ, zero, suc, _+_, _*_, _≤_, _<_}
+use mathlib.Core.Path.{_≡_, refl}
+use mathlib.Core.Logic.{_⊎_, inl, inr, _≢_}
 use native.Mathlib.Omega.{arith}
+use native.Mathlib.Decide.{ℕ-discrete}
 use Rattle.tree.specs.Count.{Count}
 use Rattle.tree.specs.Graph.{Forest}
-use Rattle.tree.specs.Rooted.{Rooted}
+use Rattle.tree.specs.Rooted.{Above, self, up, Rooted}
 use Rattle.tree.proofs.Counts.{count-unique, count-same}
 use Rattle.tree.proofs.OnePath.{unique}
+use Rattle.tree.proofs.Rooted.{above-inv}
 use Rattle.tree.proofs.Above.{Tree, fits-up}
-use Rattle.tree.proofs.Climbs.{root-above}
-use Rattle.tree.proofs.Route.{met}
+use Rattle.tree.proofs.Climbs.{Passed, none-passed, root-above}
+use Rattle.tree.proofs.Route.{route}
 use Rattle.spines.specs.Spine.{ChildOf, Leaf, Leaves}
 use Rattle.spines.specs.Hops.{Hops, FloorLog}
 use Rattle.spines.specs.Parents.{Child}
 use Rattle.spines.proofs.Below.{leaf-under}
-use Rattle.spines.proofs.Leaves.{leaves-up, many, many-leaves}
-use Rattle.spines.proofs.Leaving.{Climbing, heads-count, bounded, meet}
+use Rattle.spines.proofs.Leaves.{leaves-up, above?, many, many-leaves}
+use Rattle.spines.proofs.Rising.{Rising, rising-some, heads-count, bounded}
 use Rattle.spines.proofs.Same.{same-leaf, same-touched}
 use Rattle.spines.proofs.Net.{child-net, net-child}
 
@@ -23,33 +26,57 @@ use Rattle.spines.proofs.Net.{child-net, net-child}
 pub hops-only : {u v : ℕ → ℕ} {k n x y h g : ℕ} → Forest u v k → Hops u v k n x y h → Hops u v k n x y g → h ≡ g
 hops-only {u} {v} F p q = count-unique (p .touches) (rw (unique u v F (p .walk) (q .walk) (p .once) (q .once) .1) (q .touches))
 
+-- any two nodes' climbs meet, and pass nothing in common before
+pub record Meeting (par : ℕ → ℕ) (x y t : ℕ) : Type 0 where
+  pub left : Above par t x
+  pub right : Above par t y
+  pub apart : (z : ℕ) → Passed par t x z → Passed par t y z → ⊥
+
+meet-some : {n : ℕ} {par place : ℕ → ℕ} → Tree n par place → (x y : ℕ) → x < n → y < n → (t : ℕ) × Meeting par x y t
+meet-some {n} {par} {place} T x y b c = climb (suc (place x)) x b (omega arith)
+  where
+    climb : (m x : ℕ) → x < n → place x < m → (t : ℕ) × Meeting par x y t
+    climb zero x b l = absurd (omega arith)
+    climb (suc m) x b l = pick (above? T x (suc (place y)) y c (omega arith)) (ℕ-discrete x 0) (climb m (par x))
+      where
+        pick : Dec (Above par x y) → Dec (x ≡ 0) → (par x < n → place (par x) < m → (t : ℕ) × Meeting par (par x) y t) → (t : ℕ) × Meeting par x y t
+        pick (yes a) z ih = (x, record { left = self; right = a; apart = λ w h g. none-passed T b h })
+        pick (no a) (yes z) ih = absurd (a (rw z (root-above T y c)))
+        pick (no a) (no z) ih = further (ih (T .fits x b z) (omega (arith, T .earlier x b z)))
+          where
+            further : (t : ℕ) × Meeting par (par x) y t → (t : ℕ) × Meeting par x y t
+            further s = (s .0, record { left = up z refl (s .1 .left); right = s .1 .right; apart = λ w h g. later w h g (above-inv (h .above)) })
+              where
+                later : (w : ℕ) → Passed par (s .0) x w → Passed par (s .0) y w → (w ≡ x) ⊎ ((x ≢ 0) × Above par w (par x)) → ⊥
+                later w h g (inl e) = a (rw e at (g .above))
+                later w h g (inr k) = s .1 .apart w (record { above = k .1; below = h .below; not = h .not }) g
+
 module _ {u v : ℕ → ℕ} {k n : ℕ} {par row place : ℕ → ℕ} (R : Rooted u v k n par row place) (T : Tree n par place) (some : 0 < n) where
   -- where the climbs meet, 1 + i + j spines are touched
-  pub hops-met : {x y t i j : ℕ} → Climbing T x y t t i j → Hops u v k n x y (1 + (i + j))
-  hops-met {x} {y} {t} {i} {j} c =
-      let r = met R T (c .climbs) in
+  pub hops-met : {x y t i j : ℕ} → Rising T x t i → Rising T y t j → ((z : ℕ) → Passed par t x z → Passed par t y z → ⊥) → Hops u v k n x y (1 + (i + j))
+  hops-met p q apart =
+      let r = route R T (p .fits) (q .fits) (p .above) (q .above) apart in
       record {
         rows = r .rows;
         nodes = r .nodes;
         walk = r .walk;
         once = r .once;
-        touches = count-same
+        touches =
+            count-same
             (λ h a. same-touched (child-net R T some) (net-child R T some) _ h (record { node = a .node; on = r .all (a .node) (a .below) (a .above); head = a .head }))
             (λ h a. let b = same-touched (net-child R T some) (child-net R T some) _ h a in let o = r .only (b .node) (b .on) in record { node = b .node; below = o .0; above = o .1; head = b .head })
-            (heads-count T c);
+            (heads-count T p q apart);
       }
 
   -- the leaves of the net are those below the root
   root-leaves : (a : ℕ) → Count (Leaf (ChildOf u v k n) n) a → Leaves (Child n par) n 0 a
   root-leaves a l = count-same (λ x h. leaf-under T (same-leaf (net-child R T some) (child-net R T some) x h) (root-above T x (h .fits))) (λ x h. same-leaf (child-net R T some) (net-child R T some) x (h .leaf)) l
 
-  pub hops-bound : ((a b : ℕ) → a < n → b < n → place a ≡ place b → a ≡ b) → place 0 ≡ 0 → (x y h a c : ℕ) → x < n → y < n → Hops u v k n x y h → Count (Leaf (ChildOf u v k n) n) a → FloorLog a c → h ≤ 1 + 2 * c
-  hops-bound same rooted x y h a c bx by p la fl = goal (meet T same rooted x y bx by)
-    where
-      goal : (t : ℕ) × (i : ℕ) × (j : ℕ) × Climbing T x y t t i j → h ≤ 1 + 2 * c
-      goal s =
-          let w = s .3 in
-          let ft : s .0 < n = fits-up T bx (w .climbs .left) in
-          let high : many T (s .0) ≤ a = leaves-up T (root-above T (s .0) ft) (many-leaves T (s .0)) (root-leaves a la) in
-          let e : h ≡ 1 + (s .1 + s .2) = hops-only (R .forest) p (hops-met w) in
-          omega (arith, bounded T w a c high fl)
+  pub hops-bound : (x y h a c : ℕ) → x < n → y < n → Hops u v k n x y h → Count (Leaf (ChildOf u v k n) n) a → FloorLog a c → h ≤ 1 + 2 * c
+  hops-bound x y h a c bx by p la fl =
+      let m = meet-some T x y bx by in
+      let i = rising-some T bx (m .1 .left) in
+      let j = rising-some T by (m .1 .right) in
+      let high : many T (m .0) ≤ a = leaves-up T (root-above T (m .0) (fits-up T bx (m .1 .left))) (many-leaves T (m .0)) (root-leaves a la) in
+      let e : h ≡ 1 + (i .0 + j .0) = hops-only (R .forest) p (hops-met (i .1) (j .1) (m .1 .apart)) in
+      omega (arith, bounded T (i .1) (j .1) (m .1 .apart) a c high fl)

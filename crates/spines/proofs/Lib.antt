@@ -9,7 +9,7 @@ pub mod SizeSweep
 pub mod MainSweep
 pub mod HeadSweep
 pub mod FloorLog
-pub mod Leaving
+pub mod Rising
 pub mod Same
 pub mod Net
 pub mod HopsBound

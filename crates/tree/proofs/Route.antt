@@ -18,7 +18,7 @@ use Rattle.tree.proofs.Members.{not-nil, in-left, in-right, in-either}
 use Rattle.tree.proofs.Rooted.{above-inv, sum-snoc, away-up, away-down}
 use Rattle.tree.proofs.Values.{total-snoc}
 use Rattle.tree.proofs.Above.{Tree, above-trans, above-anti, fits-up, place-up}
-use Rattle.tree.proofs.Climbs.{Passed, Climbs, step-split}
+use Rattle.tree.proofs.Climbs.{Passed, step-split}
 
 -- d x is the sum of f along the climb from x to the root
 abbrev pub Sums : (ℕ → ℕ) → (ℕ → ℕ) → ℕ → (ℕ → ℕ) → (ℕ → ℕ) → Type 0
@@ -145,10 +145,6 @@ module _ {u v : ℕ → ℕ} {k n : ℕ} {par row place : ℕ → ℕ} (R : Root
           all : (z : ℕ) → Above par t z → Above par z x ⊎ Above par z y → In z (x ∷ (p .nodes ++ (y ∷ [])))
           all z g (inl a) = in-left (y ∷ []) (p .all z g (inl a))
           all z g (inr a) = ⊎-elim (λ s. in-right (x ∷ p .nodes) (at s)) (λ s. in-left (y ∷ []) (p .all z g (inr (rw e at (s .1))))) (above-inv a)
-
-  -- where two climbs have met
-  pub met : {x y t : ℕ} → Climbs n par place x y t t → Route t x y
-  met c = route (c .fits-x) (c .fits-y) (c .left) (c .right) (c .apart)
 
   -- it has a length and a weight
   pub route-value : {long : ℕ → ℕ} {heavy : ℕ → ℤ} {t x y : ℕ} (r : Route t x y) → Value u v k long heavy x y (Sum long (r .rows)) (Total heavy (r .rows))
