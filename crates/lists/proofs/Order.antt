@@ -5,7 +5,7 @@ use mathlib.Core.Logic.{inl, inr}
 use mathlib.Core.List.{List}
 use native.Mathlib.Omega.{arith}
 use Rattle.arrays.specs.Filled.{at}
-use Rattle.lists.specs.Pairs.{best4, Le, pair}
+use Rattle.lists.specs.Pairs.{Le, pair}
 use Rattle.lists.specs.Partners.{Offered, Better, Preferred}
 use Rattle.lists.specs.declared.across.Best.{Best}
 

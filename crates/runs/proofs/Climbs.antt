@@ -1,18 +1,17 @@
 -- One outcome only: a pair across two items is, in the tree, the pair whose climbs meet at t; so each pair of places has one value, and what
 -- `whole` promises allows one best.
-use Prim.Native.Nat.{ℕ, zero, suc, _+_, _*_, _≤_, _<_}
-use mathlib.Core.Path.{_≡_, refl, sym, ap, _∙_}
+use Prim.Native.Nat.{ℕ, zero, suc, _+_, _≤_, _<_}
+use mathlib.Core.Path.{_≡_, sym, ap, _∙_}
 use mathlib.Core.Logic.{_⊎_, inl, inr}
 use mathlib.Core.List.{List}
 use native.Mathlib.Omega.{arith}
 use native.Mathlib.Decide.{decLt, ℕ-discrete}
 use Rattle.arrays.specs.Filled.{at}
-use Rattle.lists.specs.Pairs.{best4, Le}
+use Rattle.lists.specs.Pairs.{Le}
 use Rattle.lists.specs.declared.across.Best.{Best}
 use Rattle.lists.proofs.Order.{le-antisym}
 use Rattle.runs.specs.Parts.{Part, none, node, hung, Item, own, tree}
-use Rattle.runs.specs.Lift.{lift, World}
-use Rattle.runs.specs.Searched.{Hangs, Cross, Met, Found, Searched}
+use Rattle.runs.specs.Searched.{Cross, Met, Found, Searched}
 use Rattle.runs.proofs.Numbered.{Numbered}
 use Rattle.runs.proofs.Parts.{part-le}
 
@@ -136,30 +135,3 @@ module _ (stop head parent : List ℕ) (n : ℕ) (z : Numbered stop head parent 
   -- the promise of `whole` allows one outcome
   pub whole-only : (name d w : List ℕ) (limit : ℕ) (old x y : Best) → Searched stop head parent name d w 0 n limit old x → Searched stop head parent name d w 0 n limit old y → x ≡ y
   whole-only name d w limit old = searched-only stop head parent name d w 0 n limit old (λ p q a b l. cross-one name d w p q a b l)
-
-  -- weight 0 is "none": where every lifted weight is positive, so is every pair's
-  module _ (name d w : List ℕ) (o : World d w) (pos : (x : ℕ) → x < n → 0 < at w x) (limit : ℕ) (r : Best) (f : Searched stop head parent name d w 0 n limit (best4 0 0 0 0) r) where
-    positive : (p q : ℕ) (b : Best) → p < n → q < n → Cross stop head parent name d w p q b → 0 < b .weight
-    positive p q b a l c = omega (arith, c .value .weight, pos p a, o .heavy .low (c .t) (omega (arith, z .within, cross-climbs name d w p q b c l .p-low)))
-
-    pub none-within : r .weight ≡ 0 → (p q : ℕ) (b : Best) → p < q → q < n → Cross stop head parent name d w p q b → limit < b .length
-    none-within e p q b a l c = pick (decLt limit (b .length))
-      where
-        k : Met stop head parent name d w p q limit r
-        k = f .beats p q (omega arith) a l
-
-        v : k .best ≡ b
-        v = cross-one name d w p q (k .best) b l (k .cross) c
-
-        pick : Dec (limit < b .length) → limit < b .length
-        pick (yes u) = u
-        pick (no u) =
-            let h : Le b r = rw v at (k .beaten (rw v (omega arith))) in
-            absurd (omega (arith, h .weight, positive p q b (omega arith) l c))
-
-    pub some-found : 0 < r .weight → Found stop head parent name d w 0 n limit r
-    some-found u = pick (f .comes)
-      where
-        pick : (r ≡ best4 0 0 0 0) ⊎ Found stop head parent name d w 0 n limit r → Found stop head parent name d w 0 n limit r
-        pick (inl v) = absurd (omega (arith, u, ap (λ x. x .weight) v))
-        pick (inr v) = v

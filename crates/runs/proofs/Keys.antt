@@ -8,7 +8,7 @@ use native.Mathlib.Decide.{ℕ-discrete, decLt}
 use lib.ListN.{length, set, length-set, replicate, length-replicate, getD-replicate}
 use lib.Seq.{getD-set-same, getD-set-other}
 use Rattle.arrays.specs.Filled.{at}
-use Rattle.lists.specs.Runs.{In, By, Sorted, Kept, Copied}
+use Rattle.lists.specs.Runs.{In, Copied}
 use Rattle.lists.specs.Pairs.{Small}
 use Rattle.runs.specs.Lift.{lift, Low, World}
 use Rattle.runs.specs.Items.{Owned}

@@ -1,10 +1,9 @@
 -- Cutting a part at a boundary of items: `Splitting` is the loop's invariant, prev and i being neighbouring boundaries.
-use Prim.Native.Nat.{ℕ, _+_, _≤_, _<_}
+use Prim.Native.Nat.{ℕ, _≤_, _<_}
 use mathlib.Core.Path.{_≡_}
 use mathlib.Core.List.{List}
 use native.Mathlib.Omega.{arith}
 use native.Mathlib.Decide.{ℕ-discrete}
-use Rattle.arrays.specs.Filled.{at}
 use Rattle.runs.specs.Parts.{Part, none}
 use Rattle.runs.specs.Items.{ItemEnd, Cut}
 use Rattle.runs.proofs.Parts.{part-le, part-append, First, first-of}

@@ -1,5 +1,4 @@
 // The places of a spine fall into items: a node of the spine alone, or a tree that hangs from it.
-ghost use mathlib.Core.Path.{_≡_};
 ghost use Prim.Native.Nat.{_≤_, _<_};
 ghost use Rattle.runs.specs.Parts.{Part};
 ghost use Rattle.runs.specs.Items.{Owned, ItemEnd, Cut};

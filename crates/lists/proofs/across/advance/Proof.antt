@@ -1,5 +1,5 @@
 -- `lists::advance` meets its contract. The invariant: the partner is the best of the places passed, and those passed since the call are within the limit. The measure is what is left of the run.
-use Prim.Native.Nat.{_≤_, _-_}
+use Prim.Native.Nat.{_-_}
 use native.Mathlib.Omega.{arith}
 use Rattle.lists.specs.Partners.{Walkable, Sofar}
 use Rattle.lists.proofs.Joining.{Going, sofar-more, going-none, going-more, going-stop, going-end}

@@ -1,5 +1,4 @@
 -- `lists::join` meets its contract. The invariant is `Sweep`; the measure is the place in up's run, which falls.
-use Prim.Native.Nat.{_≤_, _-_}
 use native.Mathlib.Omega.{arith}
 use Rattle.lists.specs.Pairs.{Joinable}
 use Rattle.lists.proofs.Joining.{Sweep, sweep-none, sweep-back, sweep-node, sweep-all}

@@ -1,6 +1,5 @@
 -- `runs::split` meets its contract. The invariant is `Splitting`, prev and i being neighbouring boundaries of items, with prev before the middle unless it is s. The measure is what is left of the part.
-use Prim.Native.Nat.{_≤_, _<_, _+_, _-_}
-use mathlib.Core.Path.{_≡_}
+use Prim.Native.Nat.{_≤_, _<_, _-_}
 use native.Mathlib.Omega.{arith}
 use Rattle.runs.proofs.Splitting.{Splitting, splitting-first, splitting-more, cut-prev, cut-end, cut-next}
 use Rattle.runs.proofs.items.split.Statement.{statement}

@@ -1,0 +1,10 @@
+-- Laws of this crate, by topic.
+pub mod Heads
+pub mod Seating
+pub mod Full
+pub mod Spots
+pub mod Laying
+pub mod Numbers
+pub mod Chosen
+pub mod Choosing
+pub mod Weighing

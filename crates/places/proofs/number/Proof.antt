@@ -1,0 +1,64 @@
+-- `places::number` meets its contract: heads, sizes and spots, and by them each array by place. A node's spot is its own, so nothing laid out is overwritten.
+use native.Mathlib.Omega.{arith}
+use borrow.Author.Needs.{needs}
+use Rattle.tree.proofs.Above.{fits-up}
+use Rattle.tree.proofs.Grown.{grown-tree}
+use Rattle.spines.proofs.Head.{head-above}
+use Rattle.places.proofs.Spots.{spots-of}
+use Rattle.places.proofs.number.Statement.{statement}
+use Rattle.places.proofs.number.Tie as tie
+
+heads-of-requires : tie.Need-heads-of-requires
+heads-of-requires c κs = search needs
+
+sizes-of-requires : tie.Need-sizes-of-requires
+sizes-of-requires c κs = search needs
+
+seats-requires : tie.Need-seats-requires
+seats-requires c κs = (c .before .before .before .before .before .before .before .before .pre, c .before .before .before .before .sizes-of .ensures)
+
+lay-stops-requires : tie.Need-lay-stops-requires
+lay-stops-requires c κs =
+    let g = c .before .before .before .before .before .before .before .before .before .before .before .before .pre in
+    (spots-of g (c .before .before .before .before .before .before .before .before .before .before .heads-of .ensures) (c .before .before .before .before .before .before .before .before .sizes-of .ensures) (c .before .before .before .seats .ensures), λ v b. c .before .before .before .seats .ensures .ends v b (g .here v b .0))
+
+lay-spots-requires : tie.Need-lay-spots-requires
+lay-spots-requires c κs =
+    let g = c .before .before .before .before .before .before .before .before .before .before .before .before .before .before .before .before .pre in
+    (spots-of g (c .before .before .before .before .before .before .before .before .before .before .before .before .before .before .heads-of .ensures) (c .before .before .before .before .before .before .before .before .before .before .before .before .sizes-of .ensures) (c .before .before .before .before .before .before .before .seats .ensures), λ v l b. fits-up (grown-tree g) b (head-above (c .before .before .before .before .before .before .before .before .before .before .before .before .before .before .heads-of .ensures .each v b)))
+
+lay-spots-requires-2 : tie.Need-lay-spots-requires-2
+lay-spots-requires-2 c κs =
+    let g = c .before .before .before .before .before .before .before .before .before .before .before .before .before .before .before .before .before .before .before .pre in
+    (spots-of g (c .before .before .before .before .before .before .before .before .before .before .before .before .before .before .before .before .before .heads-of .ensures) (c .before .before .before .before .before .before .before .before .before .before .before .before .before .before .before .sizes-of .ensures) (c .before .before .before .before .before .before .before .before .before .before .seats .ensures), λ v l b. g .fits v b (omega arith))
+
+lay-names-requires : tie.Need-lay-names-requires
+lay-names-requires c κs = spots-of (c .before .before .before .before .before .before .before .before .before .before .before .before .before .before .before .before .before .before .before .before .before .before .pre) (c .before .before .before .before .before .before .before .before .before .before .before .before .before .before .before .before .before .before .before .before .heads-of .ensures) (c .before .before .before .before .before .before .before .before .before .before .before .before .before .before .before .before .before .before .sizes-of .ensures) (c .before .before .before .before .before .before .before .before .before .before .before .before .before .seats .ensures)
+
+returns : tie.Need-returns
+returns c =
+    record {
+      head = _;
+      size = _;
+      next = _;
+      headed = c .before .before .before .before .before .before .before .before .before .before .before .before .before .before .before .before .before .before .before .before .before .heads-of .ensures;
+      sized = c .before .before .before .before .before .before .before .before .before .before .before .before .before .before .before .before .before .before .before .sizes-of .ensures;
+      seated = c .before .before .before .before .before .before .before .before .before .before .before .before .before .before .seats .ensures;
+      ended = c .before .before .before .before .before .before .before .before .before .before .lay-stops .ensures;
+      top = c .before .before .before .before .before .before .lay-spots .ensures;
+      above = c .before .before .before .lay-spots2 .ensures;
+      named = c .lay-names .ensures;
+    }
+
+pub number-spec : {M : Type 1} → statement M
+number-spec =
+    tie.close
+    (tie.spec
+    heads-of-requires
+    sizes-of-requires
+    seats-requires
+    lay-stops-requires
+    lay-spots-requires
+    lay-spots-requires-2
+    lay-names-requires
+    returns)

@@ -1,0 +1,4 @@
+-- Heaviest: what the crate promises. Seats and Laid: working statements of private functions.
+pub mod Heaviest
+pub mod Seats
+pub mod Laid
