@@ -29,9 +29,6 @@ module _ (us vs : ℕ → ℕ) (rows : ℕ) (parent half order place : List ℕ)
   joined-at zero i l b = absurd (omega arith)
   joined-at (suc k) i l b = pick (ℕ-discrete i 0) (joined-at k)
     where
-      J : ℕ → Type 0
-      J v = Joined us vs (First rows) 0 v
-
       pick : Dec (i ≡ 0) → ((j : ℕ) → j < k → j < m → Joined us vs (First rows) 0 (at order j)) → Joined us vs (First rows) 0 (at order i)
       pick (yes e) ih = rw (e, Q₁ .root) (joined-refl _ _ 0)
       pick (no n) ih =

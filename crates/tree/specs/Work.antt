@@ -12,6 +12,8 @@ use Rattle.tree.specs.Net.{firstEnd, secondEnd}
 use Rattle.tree.specs.Half.{from}
 use Rattle.tree.specs.Walked.{Reached, High, Falls, Walked}
 
+-- Rows
+
 -- the ends of each row are below n
 pub record RowsFit (us vs : ℕ → ℕ) (rows n : ℕ) : Type 0 where
   pub first : (r : ℕ) → r < rows → us r < n
@@ -29,6 +31,13 @@ pub record Fitting (s : List ℕ) (n : ℕ) : Type 0 where
   pub few : n ≤ 4096
   pub stands : (r : ℕ) → r < n - 1 → Stands s r
   pub fit : RowsFit (firstEnd s) (secondEnd s) (n - 1) n
+
+-- Union by rank
+
+-- each of the first i of 4,096 places holds its own number
+pub record Numbered (i : ℕ) (l : List ℕ) : Type 0 where
+  pub long : length l ≡ 4096
+  pub each : (k : ℕ) → k < i → at l k ≡ k
 
 -- x is its own, or climbs to t
 pub data Climb (up : List ℕ) : ℕ → ℕ → Type 0 where
@@ -53,6 +62,15 @@ pub record FirstRing (us vs : ℕ → ℕ) (rows r : ℕ) : Type 0 where
   pub forest : Forest us vs r
   pub closes : r < rows → Joined us vs (First r) (us r) (vs r)
 
+-- what linking two roots asks
+pub record Linkable (p q : ℕ) (rank : List ℕ) : Type 0 where
+  pub one : p < 4096
+  pub two : q < 4096
+  pub apart : p ≢ q
+  pub long : length rank ≡ 4096
+  pub one-low : at rank p ≤ 4096
+  pub two-low : at rank q ≤ 4096
+
 -- b is put above a, and only b's rank may change
 pub record Linked (a b : ℕ) (up rank up₂ rank₂ : List ℕ) : Type 0 where
   pub put : up₂ ≡ set up a b
@@ -64,6 +82,8 @@ pub record Linked (a b : ℕ) (up rank up₂ rank₂ : List ℕ) : Type 0 where
 
 abbrev pub Union : ℕ → ℕ → List ℕ → List ℕ → List ℕ → List ℕ → Type 0
 Union p q up rank up₂ rank₂ = Linked p q up rank up₂ rank₂ ⊎ Linked q p up rank up₂ rank₂
+
+-- Chains of half-branches
 
 -- x is one more than the greatest h below k with q h ≡ v, or 0 where there is none
 pub record Last (q : ℕ → ℕ) (v k x : ℕ) : Type 0 where
@@ -77,6 +97,8 @@ pub record Chained (us vs : ℕ → ℕ) (rows k : ℕ) (first next : List ℕ) 
   pub long : (length first ≡ 4096) × (length next ≡ 8192)
   pub firsts : (v : ℕ) → v < 4096 → Last (from us vs) v k (at first v)
   pub nexts : (h : ℕ) → h < k → Last (from us vs) (from us vs h) h (at next h)
+
+-- The queue
 
 -- m nodes are in the order
 pub record Queue (us vs : ℕ → ℕ) (rows m : ℕ) (parent half order place : List ℕ) : Type 0 where
@@ -101,20 +123,6 @@ pub record Outer (us vs : ℕ → ℕ) (rows head m : ℕ) (parent half order pl
   pub in-queue : head ≤ m
   pub latest : (i : ℕ) → 0 < i → i < m → High parent order place i < head
   pub done : (i h : ℕ) → i < head → h < 2 * rows → from us vs h ≡ at order i → at parent (from vs us h) ≢ 4096
-
--- each of the first i of 4,096 places holds its own number
-pub record Numbered (i : ℕ) (l : List ℕ) : Type 0 where
-  pub long : length l ≡ 4096
-  pub each : (k : ℕ) → k < i → at l k ≡ k
-
--- what linking two roots asks
-pub record Linkable (p q : ℕ) (rank : List ℕ) : Type 0 where
-  pub one : p < 4096
-  pub two : q < 4096
-  pub apart : p ≢ q
-  pub long : length rank ≡ 4096
-  pub one-low : at rank p ≤ 4096
-  pub two-low : at rank q ≤ 4096
 
 -- what a visit of the node at the place head asks
 pub record Visits (s : List ℕ) (rows : ℕ) (first next : List ℕ) (head tail : ℕ) (parent half order place : List ℕ) : Type 0 where
