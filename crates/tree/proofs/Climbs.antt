@@ -4,15 +4,9 @@ use mathlib.Core.Path.{_≡_, refl, ap}
 use mathlib.Core.Logic.{_⊎_, inl, inr, _≢_, ⊎-elim}
 use native.Mathlib.Omega.{arith}
 use native.Mathlib.Decide.{ℕ-discrete}
-use Rattle.tree.specs.Rooted.{Above, self, up}
+use Rattle.tree.specs.Rooted.{Above, self, up, Passed}
 use Rattle.tree.proofs.Rooted.{above-inv}
 use Rattle.tree.proofs.Above.{Tree, above-trans, above-chain, above-anti, fits-up, place-up}
-
--- z is on the climb from x, strictly below a
-pub record Passed (par : ℕ → ℕ) (a x z : ℕ) : Type 0 where
-  pub above : Above par z x
-  pub below : Above par a z
-  pub not : z ≢ a
 
 module _ {n : ℕ} {par place : ℕ → ℕ} (T : Tree n par place) where
   pub none-passed : {x z : ℕ} → x < n → ¬ Passed par x x z

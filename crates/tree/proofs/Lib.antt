@@ -26,3 +26,4 @@ pub mod Theorems
 pub mod Climbs
 pub mod Route
 pub mod Far
+pub mod Meeting

@@ -13,12 +13,12 @@ use Rattle.tree.specs.Members.{In, at, past, Distinct}
 use Rattle.tree.specs.Graph.{First, Walk, stop}
 use Rattle.tree.specs.Path.{Sum}
 use Rattle.tree.specs.Value.{Total, Value}
-use Rattle.tree.specs.Rooted.{Above, self, up, Rooted}
+use Rattle.tree.specs.Rooted.{Above, self, up, Passed, Rooted}
 use Rattle.tree.proofs.Members.{not-nil, in-left, in-right, in-either}
 use Rattle.tree.proofs.Rooted.{above-inv, sum-snoc, away-up, away-down}
 use Rattle.tree.proofs.Values.{total-snoc}
 use Rattle.tree.proofs.Above.{Tree, above-trans, above-anti, fits-up, place-up}
-use Rattle.tree.proofs.Climbs.{Passed, step-split}
+use Rattle.tree.proofs.Climbs.{step-split}
 
 -- d x is the sum of f along the climb from x to the root
 abbrev pub Sums : (ℕ → ℕ) → (ℕ → ℕ) → ℕ → (ℕ → ℕ) → (ℕ → ℕ) → Type 0

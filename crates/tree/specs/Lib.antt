@@ -11,3 +11,4 @@ pub mod Half
 pub mod Walked
 pub mod Work
 pub mod Grown
+pub mod Meet

@@ -9,6 +9,12 @@ pub data Above (par : ℕ → ℕ) (t : ℕ) : ℕ → Type 0 where
   self : Above par t t
   up : {x y : ℕ} → x ≢ 0 → par x ≡ y → Above par t y → Above par t x
 
+-- z is on the climb from x, strictly below a
+pub record Passed (par : ℕ → ℕ) (a x z : ℕ) : Type 0 where
+  pub above : Above par z x
+  pub below : Above par a z
+  pub not : z ≢ a
+
 -- k rows over n nodes, all joined and with no ring; the parent's place is earlier than the node's
 pub record Rooted (u v : ℕ → ℕ) (k n : ℕ) (par row place : ℕ → ℕ) : Type 0 where
   pub forest : Forest u v k

@@ -1,8 +1,10 @@
 // What a net is: acceptance by refusals 1 to 12, and the walk from the root.
+mod common;
 mod ends;
 mod reach;
 mod ring;
 
+pub use common::meet;
 ghost use mathlib.Core.Path.{_≡_};
 ghost use Prim.Native.Nat.{_-_};
 ghost use Rattle.table.specs.Outcome.{Outcome, refusal, found};
