@@ -6,19 +6,20 @@ use native.Mathlib.Omega.{arith}
 use native.Mathlib.Decide.{ℕ-discrete}
 use Rattle.tree.specs.Count.{Count}
 use Rattle.tree.specs.Graph.{Forest}
-use Rattle.tree.specs.Rooted.{Above, self, up, Rooted}
+use Rattle.tree.specs.Rooted.{Above, self, up, Passed, Rooted}
 use Rattle.tree.proofs.Counts.{count-unique, count-same}
 use Rattle.tree.proofs.OnePath.{unique}
 use Rattle.tree.proofs.Rooted.{above-inv}
 use Rattle.tree.proofs.Above.{Tree, fits-up}
-use Rattle.tree.proofs.Climbs.{Passed, none-passed, root-above}
+use Rattle.tree.proofs.Climbs.{none-passed, root-above}
 use Rattle.tree.proofs.Route.{route}
 use Rattle.spines.specs.Spine.{ChildOf, Leaf, Leaves}
 use Rattle.spines.specs.Hops.{Hops, FloorLog}
 use Rattle.spines.specs.Parents.{Child}
+use Rattle.spines.specs.Work.{Leaving}
 use Rattle.spines.proofs.Below.{leaf-under}
 use Rattle.spines.proofs.Leaves.{leaves-up, above?, many, many-leaves}
-use Rattle.spines.proofs.Rising.{Rising, rising-some, heads-count, bounded}
+use Rattle.spines.proofs.Rising.{rising-some, heads-count, bounded}
 use Rattle.spines.proofs.Same.{same-leaf, same-touched}
 use Rattle.spines.proofs.Net.{child-net, net-child}
 
@@ -53,9 +54,9 @@ meet-some {n} {par} {place} T x y b c = climb (suc (place x)) x b (omega arith)
 
 module _ {u v : ℕ → ℕ} {k n : ℕ} {par row place : ℕ → ℕ} (R : Rooted u v k n par row place) (T : Tree n par place) (some : 0 < n) where
   -- where the climbs meet, 1 + i + j spines are touched
-  pub hops-met : {x y t i j : ℕ} → Rising T x t i → Rising T y t j → ((z : ℕ) → Passed par t x z → Passed par t y z → ⊥) → Hops u v k n x y (1 + (i + j))
-  hops-met p q apart =
-      let r = route R T (p .fits) (q .fits) (p .above) (q .above) apart in
+  pub hops-met : {x y t i j : ℕ} → x < n → y < n → Above par t x → Above par t y → ((z : ℕ) → Passed par t x z → Passed par t y z → ⊥) → Count (Leaving n par t x) i → Count (Leaving n par t y) j → Hops u v k n x y (1 + (i + j))
+  hops-met bx by left right apart p q =
+      let r = route R T bx by left right apart in
       record {
         rows = r .rows;
         nodes = r .nodes;
@@ -65,7 +66,7 @@ module _ {u v : ℕ → ℕ} {k n : ℕ} {par row place : ℕ → ℕ} (R : Root
             count-same
             (λ h a. same-touched (child-net R T some) (net-child R T some) _ h (record { node = a .node; on = r .all (a .node) (a .below) (a .above); head = a .head }))
             (λ h a. let b = same-touched (net-child R T some) (child-net R T some) _ h a in let o = r .only (b .node) (b .on) in record { node = b .node; below = o .0; above = o .1; head = b .head })
-            (heads-count T p q apart);
+            (heads-count T bx by left p q apart);
       }
 
   -- the leaves of the net are those below the root
@@ -78,5 +79,5 @@ module _ {u v : ℕ → ℕ} {k n : ℕ} {par row place : ℕ → ℕ} (R : Root
       let i = rising-some T bx (m .1 .left) in
       let j = rising-some T by (m .1 .right) in
       let high : many T (m .0) ≤ a = leaves-up T (root-above T (m .0) (fits-up T bx (m .1 .left))) (many-leaves T (m .0)) (root-leaves a la) in
-      let e : h ≡ 1 + (i .0 + j .0) = hops-only (R .forest) p (hops-met (i .1) (j .1) (m .1 .apart)) in
-      omega (arith, bounded T (i .1) (j .1) (m .1 .apart) a c high fl)
+      let e : h ≡ 1 + (i .0 + j .0) = hops-only (R .forest) p (hops-met bx by (m .1 .left) (m .1 .right) (m .1 .apart) (i .1 .heads) (j .1 .heads)) in
+      omega (arith, bounded T (i .1) (j .1) a c high fl)

@@ -15,3 +15,4 @@ pub mod Net
 pub mod HopsBound
 pub mod Copying
 pub mod HeadsOnly
+pub mod HopsCounted

@@ -8,22 +8,18 @@ use native.Mathlib.Numerals.{add-one}
 use native.Mathlib.Decide.{ℕ-discrete}
 use native.Mathlib.Nat.{pow-suc}
 use Rattle.tree.specs.Count.{Count}
-use Rattle.tree.specs.Rooted.{Above, self, up}
+use Rattle.tree.specs.Rooted.{Above, self, up, Passed}
 use Rattle.tree.proofs.Counts.{count-same, count-none, count-one, count-add}
 use Rattle.tree.proofs.Above.{Tree, above-trans, above-chain, fits-up, place-up, place-less}
-use Rattle.tree.proofs.Climbs.{Passed, none-passed, passed-more, passed-new, passed-inv}
+use Rattle.tree.proofs.Climbs.{none-passed, passed-more, passed-new, passed-inv}
 use Rattle.spines.specs.Spine.{Head}
 use Rattle.spines.specs.Hops.{FloorLog}
 use Rattle.spines.specs.Parents.{Child}
+use Rattle.spines.specs.Work.{Leaving}
 use Rattle.spines.proofs.Leaves.{leaves-two, leaves-up, many, many-leaves, many-some}
 use Rattle.spines.proofs.Main.{main-some}
 use Rattle.spines.proofs.Head.{head-one, head-own, head-above, head-between, own-not-main, head-of}
 use Rattle.spines.proofs.FloorLog.{log-least}
-
--- z was passed, and heads its spine
-pub record Leaving (n : ℕ) (par : ℕ → ℕ) (a x z : ℕ) : Type 0 where
-  pub passed : Passed par a x z
-  pub own : Head (Child n par) n z z
 
 pow-more : (k : ℕ) → 2 ^ (k + 1) ≡ 2 ^ k + 2 ^ k
 pow-more k = rw (add-one k) (omega (arith, pow-suc 2 k))
@@ -93,9 +89,9 @@ module _ {n : ℕ} {par place : ℕ → ℕ} (T : Tree n par place) where
       go-on {w} {i} r (up q e k) = let c = counted w i (fits-up T (r .fits) (r .above)) in go-on (rw e at (rising-step r q (c .0) (c .1))) k
 
   -- where two climbs meet
-  module _ {x y t i j : ℕ} (p : Rising x t i) (q : Rising y t j) (apart : (z : ℕ) → Passed par t x z → Passed par t y z → ⊥) where
+  module _ {x y t i j : ℕ} (bx : x < n) (by : y < n) (left : Above par t x) (p : Count (Leaving n par t x) i) (q : Count (Leaving n par t y) j) (apart : (z : ℕ) → Passed par t x z → Passed par t y z → ⊥) where
     ft : t < n
-    ft = fits-up T (p .fits) (p .above)
+    ft = fits-up T bx left
 
     -- h heads a node on one of the climbs
     pub record Heads (h : ℕ) : Type 0 where
@@ -130,19 +126,19 @@ module _ {n : ℕ} {par place : ℕ → ℕ} (T : Tree n par place) where
             pick (inr a) = ⊎-elim inl (λ l. inr (inr l)) (side y (k .node) h (k .below) a (k .head) g f)
 
         two : Count (λ h. Leaving n par t x h ⊎ Leaving n par t y h) (i + j)
-        two = count-add (p .heads) (q .heads) (λ z l m. apart z (l .passed) (m .passed)) (λ z h. h) (λ z h. inl h) (λ z h. inr h)
+        two = count-add p q (λ z l m. apart z (l .passed) (m .passed)) (λ z h. h) (λ z h. inl h) (λ z h. inr h)
 
         back : (h : ℕ) → Leaving n par t x h ⊎ Leaving n par t y h → Heads h
         back h (inl l) = record { node = h; below = l .passed .below; above = inl (l .passed .above); head = l .own }
         back h (inr l) = record { node = h; below = l .passed .below; above = inr (l .passed .above); head = l .own }
 
         total : (g : ℕ) × Head (Child n par) n g t → Count Heads (1 + (i + j))
-        total f = count-add {P = λ h. h ≡ f .0} (count-one (f .0) refl (λ y e. e)) two (λ h e l. clash h e l) (split (f .0) (f .1)) (λ h e. record { node = t; below = self; above = inl (p .above); head = rw e (f .1) }) back
+        total f = count-add {P = λ h. h ≡ f .0} (count-one (f .0) refl (λ y e. e)) two (λ h e l. clash h e l) (split (f .0) (f .1)) (λ h e. record { node = t; below = self; above = inl left; head = rw e (f .1) }) back
           where
             clash : (h : ℕ) → h ≡ f .0 → Leaving n par t x h ⊎ Leaving n par t y h → ⊥
-            clash h e (inl l) = low x h (l .passed) (p .fits) (f .0) (f .1) e
-            clash h e (inr l) = low y h (l .passed) (q .fits) (f .0) (f .1) e
+            clash h e (inl l) = low x h (l .passed) bx (f .0) (f .1) e
+            clash h e (inr l) = low y h (l .passed) by (f .0) (f .1) e
 
-    -- i and j are each at most the logarithm of t's leaves
-    pub bounded : (l k : ℕ) → many T t ≤ l → FloorLog l k → 1 + (i + j) ≤ 1 + 2 * k
-    bounded l k h f = omega (arith, log-least i l k (omega (arith, p .few)) f, log-least j l k (omega (arith, q .few)) f)
+  -- the heads that a climb passed are at most the logarithm of the leaves where it stands
+  pub bounded : {x y t i j : ℕ} → Rising x t i → Rising y t j → (l k : ℕ) → many T t ≤ l → FloorLog l k → 1 + (i + j) ≤ 1 + 2 * k
+  bounded {i = i} {j = j} p q l k h f = omega (arith, log-least i l k (omega (arith, p .few)) f, log-least j l k (omega (arith, q .few)) f)

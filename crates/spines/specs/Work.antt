@@ -1,12 +1,14 @@
--- Working statements of private functions, no part of the promises: leaf counts, the main children as the sweep over node numbers finds them, and copying the heads.
-use Prim.Native.Nat.{ℕ, _≤_, _<_}
+-- Working statements of private functions, no part of the promises: leaf counts, the main children as the sweep over node numbers finds them, the heads that a climb passes, and copying heads.
+use Prim.Native.Nat.{ℕ, _+_, _≤_, _<_}
 use mathlib.Core.Path.{_≡_}
 use mathlib.Core.Logic.{_≢_}
 use mathlib.Core.List.{List}
 use lib.ListN.{length}
 use Rattle.arrays.specs.Filled.{at}
-use Rattle.spines.specs.Spine.{Leaves}
-use Rattle.spines.specs.Parents.{Child}
+use Rattle.tree.specs.Count.{Count}
+use Rattle.tree.specs.Rooted.{Above, Passed}
+use Rattle.spines.specs.Spine.{Leaves, Head}
+use Rattle.spines.specs.Parents.{Child, Spined}
 
 -- how many leaves are below each node
 pub record LeavesAll (n : ℕ) (parent leaves : List ℕ) : Type 0 where
@@ -40,6 +42,29 @@ pub record Taken (leaves : List ℕ) (q c r : ℕ) : Type 0 where
 pub record Follows (v q h r : ℕ) : Type 0 where
   pub same : q ≡ v → r ≡ h
   pub own : q ≢ v → r ≡ v
+
+-- 1 where v is its own head, and else 0
+pub record One (head : List ℕ) (v r : ℕ) : Type 0 where
+  pub own : at head v ≡ v → r ≡ 1
+  pub other : at head v ≢ v → r ≡ 0
+  pub most : r ≤ 1
+
+-- z is passed on the climb from x to t, and heads its spine
+pub record Leaving (n : ℕ) (par : ℕ → ℕ) (t x z : ℕ) : Type 0 where
+  pub passed : Passed par t x z
+  pub own : Head (Child n par) n z z
+
+-- a climb from x to t, in a walk whose heads are known
+pub record Climbable (parent place head : List ℕ) (x t : ℕ) : Type 0 where
+  pub n : ℕ
+  pub spined : Spined n parent place head
+  pub fits : x < n
+  pub above : Above (at parent) t x
+
+-- r heads are passed on it
+pub record PassedHeads (n : ℕ) (parent place : List ℕ) (x t r : ℕ) : Type 0 where
+  pub heads : Count (Leaving n (at parent) t x) r
+  pub most : r + at place t ≤ at place x
 
 -- the list holds the first of what the array holds, as many as it is long
 pub record Copied (head before list : List ℕ) : Type 0 where

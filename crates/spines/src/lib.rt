@@ -1,6 +1,8 @@
 // Leaves, spines and heads over the walk from node 0; the operation heads.
+mod climbs;
 mod sweeps;
 
+pub use climbs::hops;
 ghost use Prim.Native.Nat.{_≤_};
 ghost use lib.ListN.{length};
 ghost use Rattle.tree.specs.Net.{Net};
