@@ -1,6 +1,6 @@
 -- The first nodes in turn, from the start's on: what was found below u is the listing of what follows the start with first node below u; past the last node it is the page.
-use Prim.Native.Nat.{ℕ, _+_, _*_, _/_, _≤_, _<_}
-use mathlib.Core.Path.{_≡_, sym, ap, _∙_}
+use Prim.Native.Nat.{ℕ, _+_, _≤_, _<_}
+use mathlib.Core.Path.{_≡_, sym, _∙_}
 use mathlib.Core.Logic.{_⊎_, inl, inr}
 use mathlib.Core.List.{List, [], _++_}
 use native.Mathlib.Omega.{arith}
@@ -9,7 +9,6 @@ use lib.IntN.{ℤ}
 use lib.ListN.{length, take, length-take}
 use Rattle.arrays.specs.Filled.{at}
 use Rattle.table.specs.Signed.{Diff}
-use Rattle.table.proofs.Lift.{diff-only}
 use Rattle.pages.specs.Listing.{Entry, After, first, second, Listing}
 use Rattle.pages.specs.Passes.{Qualifies}
 use Rattle.pages.specs.Page.{Following}
@@ -18,7 +17,7 @@ use Rattle.pages.specs.Work.{lower, Raised, Starts, Fills, Grown, Here}
 use Rattle.pages.proofs.Order.{not-before, after-second}
 use Rattle.pages.proofs.Listings.{listing-iff, listing-none, listing-join}
 use Rattle.pages.proofs.Lift.{lower-is}
-use Rattle.pages.proofs.Filling.{fills-none, fills-length, fills-fit}
+use Rattle.pages.proofs.Filling.{fills-none, fills-fit}
 
 -- the page so far: the first nodes below u are done
 pub record Sofar (P : Entry → Type 0) (s t u : ℕ) (page : List ℕ) (given left : ℕ) (now : List ℕ) : Type 0 where
@@ -45,9 +44,6 @@ follows {s} {t} {u} e b q h = pick (ℕ-discrete u s)
 module _ {P : Entry → Type 0} {s t : ℕ} where
   pub sofar-none : (page : List ℕ) → Sofar P s t s page 0 0 page
   sofar-none page = record { seen = []; all = listing-none (λ e x. omega (arith, x .1, not-before (x .0 .1))); fills = fills-none page }
-
-  pub sofar-length : {u : ℕ} {page now : List ℕ} {g l : ℕ} → Sofar P s t u page g l now → length now ≡ length page
-  sofar-length a = fills-length (a .fills)
 
 module _ {Value : ℕ → ℕ → ℕ → ℤ → Type 0} {Within : ℕ → Type 0} {n : ℕ} {floor : ℤ} where
   module _ (single : Single Value) {s t u from f : ℕ} {len wt : List ℕ} (b : s ≤ u) (k : Valued Value u n len wt) (z : Starts s t u n from) (r : Raised floor f) where

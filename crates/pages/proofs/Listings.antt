@@ -1,5 +1,5 @@
 -- Listings: one at the most, the same where the same entries qualify, two joined where the one comes before the other.
-use mathlib.Core.Path.{_≡_, refl}
+use mathlib.Core.Path.{_≡_}
 use mathlib.Core.Logic.{_⊎_, inl, inr}
 use mathlib.Core.List.{List, [], _∷_, _++_}
 use Rattle.pages.specs.Listing.{Entry, Before, In, at, none, more, Listing}

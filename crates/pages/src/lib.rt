@@ -1,6 +1,6 @@
 // Pages of the listing: rows of 16 bytes in lent memory, filled in pair order, one first node at a time. Knows no tree: the lengths and the lifted weights of a node's paths come in two lent arrays.
 ghost use mathlib.Core.Path.{_≡_};
-ghost use Prim.Native.Nat.{ℕ, _+_, _*_, _≤_, _<_};
+ghost use Prim.Native.Nat.{_+_, _*_, _≤_, _<_};
 ghost use lib.ListN.{length};
 ghost use lib.Seq.{sets};
 ghost use mir.Syntax.{w64};

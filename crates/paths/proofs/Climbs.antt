@@ -1,6 +1,6 @@
 -- The climb from a to node 0: it has come to a node above a, and the nodes that it passed are marked, those above a and not above where it is.
-use Prim.Native.Nat.{ℕ, _+_, _-_, _*_, _≤_, _<_}
-use mathlib.Core.Path.{_≡_, refl, sym, ap, _∙_}
+use Prim.Native.Nat.{ℕ, _+_, _-_, _≤_, _<_}
+use mathlib.Core.Path.{_≡_, refl, sym, _∙_}
 use mathlib.Core.Logic.{_⊎_, inl, inr, _≢_}
 use mathlib.Core.List.{List}
 use native.Mathlib.Omega.{arith}
@@ -13,7 +13,7 @@ use Rattle.tree.proofs.Rooted.{above-inv}
 use Rattle.tree.proofs.Above.{fits-up, place-up}
 use Rattle.tree.proofs.Grown.{grown-tree}
 use Rattle.paths.specs.Ground.{Ground}
-use Rattle.paths.specs.Work.{Far, Climbed, Marked, Climbable, Climbing}
+use Rattle.paths.specs.Work.{Climbed, Marked, Climbable, Climbing}
 use Rattle.paths.proofs.Branch.{far-start, far-weaken, far-up}
 
 abbrev pub climbable : {n a : ℕ} {parent order place bl bw : List ℕ} → Ground n parent order place bl bw → a < n → Climbable a parent place bl bw

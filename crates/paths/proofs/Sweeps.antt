@@ -1,20 +1,18 @@
 -- The sweep over the order: each node's value from its parent's, a branch nearer where the node is marked, a branch further otherwise.
-use Prim.Native.Nat.{ℕ, _+_, _-_, _*_, _≤_, _<_}
-use mathlib.Core.Path.{_≡_, refl, sym, ap, _∙_}
+use Prim.Native.Nat.{ℕ, _+_, _≤_, _<_}
+use mathlib.Core.Path.{_≡_, sym, ap, _∙_}
 use mathlib.Core.Logic.{_≢_}
 use mathlib.Core.List.{List}
 use native.Mathlib.Omega.{arith}
 use native.Mathlib.Decide.{ℕ-discrete}
-use lib.IntN.{ℤ}
 use lib.ListN.{length, set, length-set}
 use lib.Seq.{getD-set-same, getD-set-other}
 use Rattle.arrays.specs.Filled.{at}
 use Rattle.table.proofs.Lift.{diff-only}
-use Rattle.tree.specs.Rooted.{Above}
-use Rattle.tree.proofs.Grown.{root-place, not-root, same-place, par-fits, par-earlier, read-node, read-parent}
+use Rattle.tree.proofs.Grown.{not-root, par-fits, par-earlier, read-node, read-parent}
 use Rattle.paths.specs.Ground.{Ground}
 use Rattle.paths.specs.Paths.{Paths}
-use Rattle.paths.specs.Work.{Far, Marked, Swept, Sweepable, Sweeping, Steps, Stepped}
+use Rattle.paths.specs.Work.{Far, Swept, Sweepable, Sweeping, Steps, Stepped}
 use Rattle.paths.proofs.Branch.{far-weaken, far-down, far-nearer, nearer-fits}
 
 module _ {n : ℕ} {parent order place bl bw : List ℕ} (g : Ground n parent order place bl bw) {a : ℕ} where

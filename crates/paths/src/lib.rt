@@ -1,5 +1,4 @@
 // The lengths and the lifted weights of the paths from one node to every node: one climb from it to node 0, then one sweep over the order of the walk, each node's value from its parent's.
-ghost use mathlib.Core.Path.{_≡_};
 ghost use Prim.Native.Nat.{_<_};
 ghost use Rattle.paths.specs.Ground.{Ground};
 ghost use Rattle.paths.specs.Paths.{Paths, Begun};

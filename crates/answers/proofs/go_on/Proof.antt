@@ -1,5 +1,5 @@
 -- `answers::go_on` tests 13 and 17 in order, then gives the page.
-use mathlib.Core.Path.{refl, sym, _∙_}
+use mathlib.Core.Path.{refl}
 use native.Mathlib.Omega.{arith}
 use borrow.Author.Needs.{needs}
 use mir.Syntax.{w64}

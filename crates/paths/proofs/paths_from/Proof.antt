@@ -1,5 +1,4 @@
 -- `paths::paths_from` climbs, then sweeps: what the climb leaves of any net is what the sweep begins with.
-use Rattle.paths.specs.Work.{Sweepable}
 use Rattle.paths.proofs.Climbs.{climbable}
 use Rattle.paths.proofs.Sweeps.{sweeping-paths}
 use Rattle.paths.proofs.paths_from.Statement.{statement}

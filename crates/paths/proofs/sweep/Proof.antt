@@ -1,5 +1,5 @@
 -- `paths::sweep` goes over the order. The invariant: the nodes at the places below i have their values.
-use Prim.Native.Nat.{_-_, _≤_, _<_}
+use Prim.Native.Nat.{_-_, _<_}
 use mathlib.Core.Path.{refl}
 use native.Mathlib.Omega.{arith}
 use borrow.Author.Needs.{needs}

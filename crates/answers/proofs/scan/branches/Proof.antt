@@ -1,6 +1,6 @@
 -- `answers::scan::branches` reads each node's row. The invariant: the nodes below x have theirs.
 use Prim.Native.Nat.{_-_, _/_, _≤_, _<_}
-use mathlib.Core.Path.{refl, ap, _∙_}
+use mathlib.Core.Path.{ap, _∙_}
 use native.Mathlib.Omega.{arith}
 use borrow.Author.Needs.{needs}
 use Rattle.tree.proofs.Net.{reads-length}
