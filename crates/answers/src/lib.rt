@@ -1,4 +1,5 @@
 // The operations that answer over a table and its marks.
+mod ground;
 mod scan;
 
 ghost use Prim.Native.Nat.{_≤_};

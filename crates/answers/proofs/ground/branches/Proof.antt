@@ -1,4 +1,4 @@
--- `answers::scan::branches` reads each node's row. The invariant: the nodes below x have theirs.
+-- `answers::ground::branches` reads each node's row. The invariant: the nodes below x have theirs.
 use Prim.Native.Nat.{_-_, _/_, _≤_, _<_}
 use mathlib.Core.Path.{ap, _∙_}
 use native.Mathlib.Omega.{arith}
@@ -7,8 +7,8 @@ use Rattle.tree.proofs.Net.{reads-length}
 use Rattle.marks.proofs.Weights.{under-lifts, under-small}
 use Rattle.answers.specs.Work.{Readable, Branches}
 use Rattle.answers.proofs.Branching.{branches-none, branches-more, branches-all, row-in}
-use Rattle.answers.proofs.scan.branches.Statement.{statement}
-use Rattle.answers.proofs.scan.branches.Tie as tie
+use Rattle.answers.proofs.ground.branches.Statement.{statement}
+use Rattle.answers.proofs.ground.branches.Tie as tie
 
 abbrev Inv-loop : tie.InvT-loop
 Inv-loop s marks half n bl₀ bw₀ x₀ bl bw x = Branches s marks half x bl bw × Readable s n half × (0 < x) × (n ≤ 4096)

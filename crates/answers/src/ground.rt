@@ -1,0 +1,28 @@
+// What a sweep over an accepted net stands on, beside its walk: each node's own branch, under the marks.
+ghost use Rattle.answers.specs.Work.{Readable, Branches};
+
+// For each node but 0 the length and the lifted weight of the branch to its parent, a marked one as the marks crate has it.
+pub(crate) fn branches(
+    s: &[u8],
+    marks: &[u16],
+    half: &[u16; 4096],
+    n: usize,
+    bl: &mut [u64; 4096],
+    bw: &mut [u64; 4096],
+)
+    requires { ⌜ Readable (now s) n (now half) ⌝ }
+    ensures { λ _. ⌜ Branches (now (s .entry)) (now (marks .entry)) (now (half .entry)) n (now (bl .exit)) (now (bw .exit)) ⌝ }
+{
+    arrays::fill_long(bl, 0);
+    arrays::fill_long(bw, 0);
+    let mut x: usize = 1;
+    while x < n {
+        let r = arrays::wide(half[x]) / 2;
+        let q = table::row_at(s, r);
+        let l = arrays::long(q.length);
+        let w = arrays::long(marks::lifted_under(s, marks, r));
+        bl[x] = l;
+        bw[x] = w;
+        x += 1;
+    }
+}
