@@ -1,7 +1,23 @@
-// Marks: free, held by a run, spent; what a marked branch weighs.
+// Marks: free, held by a run, spent; what a marked branch weighs; the operations claim, commit and abort.
 ghost use Rattle.marks.specs.Weighs.{LiftedUnder};
+ghost use Rattle.marks.specs.Change.{outcome, Commits, Aborts};
+ghost use Rattle.marks.specs.Claim.{Claims};
+use crate::along::claim_pair;
+use crate::settle::settle;
+use table::Refusal;
+use tree::Acceptance;
 
-const FREE: u16 = 0;
+mod along;
+mod settle;
+
+pub(crate) const FREE: u16 = 0;
+pub(crate) const SPENT: u16 = 65535;
+
+// How many marks an operation changed, or why it did nothing.
+pub enum Change {
+    Changed(u16),
+    Refused(Refusal),
+}
 
 // A row's weight under its mark, lifted by 1,000,000. Any table, marks and row number.
 pub fn lifted_under(table: &[u8], marks: &[u16], row: usize) -> u32
@@ -13,4 +29,31 @@ pub fn lifted_under(table: &[u8], marks: &[u16], row: usize) -> u32
         }
     }
     table::lifted_at(table, row)
+}
+
+// Each free branch of the path between a and b becomes held by the run.
+pub fn claim(table: &[u8], marks: &mut [u16], run: u16, a: u16, b: u16) -> Change
+    ensures { λ r. ⌜ Claims (now (table .entry)) (now (marks .entry)) run a b (outcome r (now (marks .exit))) ⌝ }
+{
+    let o = tree::accept(table);
+    match o {
+        Acceptance::Refused(why) => Change::Refused(why),
+        Acceptance::Accepted { nodes, bound } => {
+            claim_pair(table, marks, nodes, bound, run, a, b)
+        }
+    }
+}
+
+// Each branch held by the run becomes spent.
+pub fn commit(table: &[u8], marks: &mut [u16], run: u16) -> Change
+    ensures { λ r. ⌜ Commits (now (table .entry)) (now (marks .entry)) run (outcome r (now (marks .exit))) ⌝ }
+{
+    settle(table, marks, run, SPENT)
+}
+
+// Each branch held by the run becomes free.
+pub fn abort(table: &[u8], marks: &mut [u16], run: u16) -> Change
+    ensures { λ r. ⌜ Aborts (now (table .entry)) (now (marks .entry)) run (outcome r (now (marks .exit))) ⌝ }
+{
+    settle(table, marks, run, FREE)
 }

@@ -26,7 +26,8 @@ module _ (u v : ℕ → ℕ) where
   unused n (go h e w) (at q) = n _ h (sym q)
   unused n (go h e w) (past m) = unused n w m
 
-  once : {P : ℕ → Type 0} {a b : ℕ} {rs ns : List ℕ} → Walk u v P a rs ns b → Distinct (a ∷ ns) → Distinct rs
+  -- a simple path uses no row twice
+  pub once : {P : ℕ → Type 0} {a b : ℕ} {rs ns : List ℕ} → Walk u v P a rs ns b → Distinct (a ∷ ns) → Distinct rs
   once stop d = tt
   once (go h e w) d = (unused (λ s h′. h′ .1) (avoid u v (ends-left u v e) (d .0) w), once w (d .1))
 

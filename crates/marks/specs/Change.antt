@@ -1,0 +1,61 @@
+-- What claim, commit and abort leave: number and row of a refusal, how many marks changed, and the lent marks. And what commit and abort promise.
+use mathlib.Core.Path.{_≡_}
+use mathlib.Core.List.{List}
+use Prim.Native.Nat.{ℕ, _-_}
+use lib.ListN.{length}
+use Rattle.arrays.specs.Filled.{at}
+use Rattle.table.specs.Refuse.{Unless}
+use Rattle.table.specs.Header.{nodesOf}
+use Rattle.tree.specs.Count.{Count}
+use Rattle.tree.specs.Accept.{Begins}
+use Rattle.marks.specs.Mark.{free, spent, HeldBy, RunNumber}
+use Rattle.marks.specs.declared.Change.{Change}
+use Rattle.marks.specs.declared.Change.the-variants.{Changed, Refused}
+
+pub record Outcome : Type 0 where
+  pub number : ℕ
+  pub row : ℕ
+  pub count : ℕ
+  pub marks : List ℕ
+
+-- a refusal: number and row, and the marks as they were
+abbrev pub refusal : List ℕ → ℕ → ℕ → Outcome
+refusal before k r = record { number = k; row = r; count = 0; marks = before }
+
+abbrev pub outcome : Change → List ℕ → Outcome
+outcome (Changed k) after = record { number = 0; row = 0; count = k; marks = after }
+outcome (Refused w) after = record { number = w .number; row = w .row; count = 0; marks = after }
+
+-- each mark at a place of P becomes m, no other mark changes, and k is how many places P has
+pub record Changes (P : ℕ → Type 0) (m : ℕ) (before after : List ℕ) (k : ℕ) : Type 0 where
+  pub same-many : length after ≡ length before
+  pub becomes : (r : ℕ) → P r → at after r ≡ m
+  pub stays : (r : ℕ) → (P r → ⊥) → at after r ≡ at before r
+  pub count : Count P k
+
+-- nothing is refused, and the marks change so
+pub record Done (P : ℕ → Type 0) (m : ℕ) (before : List ℕ) (o : Outcome) : Type 0 where
+  pub no-number : o .number ≡ 0
+  pub no-row : o .row ≡ 0
+  pub marks : Changes P m before (o .marks) (o .count)
+
+-- 13 and 14, of a net of n nodes: one mark for each branch, and a run's number; then as the rest says
+abbrev pub Numbered : ℕ → List ℕ → ℕ → (Outcome → Type 0) → Outcome → Type 0
+Numbered n before run rest =
+    Unless Outcome (refusal before 13 0) (length before ≡ n - 1)
+    (Unless Outcome (refusal before 14 0) (RunNumber run)
+    rest)
+
+-- each branch held by the run becomes m
+abbrev pub Settling : ℕ → ℕ → List ℕ → ℕ → Outcome → Type 0
+Settling m n before run = Numbered n before run (Done (λ r. HeldBy run (at before r)) m before)
+
+abbrev pub Settles : ℕ → List ℕ → List ℕ → ℕ → Outcome → Type 0
+Settles m s before run = Begins Outcome (refusal before) s (Settling m (nodesOf s) before run)
+
+-- commit: spent; abort: free
+abbrev pub Commits : List ℕ → List ℕ → ℕ → Outcome → Type 0
+Commits = Settles spent
+
+abbrev pub Aborts : List ℕ → List ℕ → ℕ → Outcome → Type 0
+Aborts = Settles free
