@@ -1,25 +1,25 @@
 -- From what the loops did to what the promises say: a run's own marks, and the free branches of a path. And that a change leaves one list of marks.
-use mathlib.Core.Path.{_≡_, refl, sym, ap, _∙_}
-use mathlib.Core.Logic.{_⊎_, inl, inr, _≢_, ⊎-elim}
+use mathlib.Core.Path.{_≡_, refl, sym, _∙_}
+use mathlib.Core.Logic.{_⊎_, inl, inr, _≢_}
 use mathlib.Core.List.{List, [], _∷_, _++_}
-use Prim.Native.Nat.{ℕ, zero, suc, _+_, _-_, _≤_, _<_}
+use Prim.Native.Nat.{ℕ, _+_, _-_, _≤_, _<_}
 use native.Mathlib.Decide.{ℕ-discrete, decLt}
 use native.Mathlib.Omega.{arith}
 use lib.ListN.{length, List·getD-eq-default}
 use lib.Seq.{ext-getD}
 use Rattle.arrays.specs.Filled as filled
 use Rattle.table.specs.Refuse.{Only}
-use Rattle.tree.specs.Members.{In, at, past}
+use Rattle.tree.specs.Members.{In, at}
 use Rattle.tree.specs.Count.{Count}
-use Rattle.tree.specs.Path.{Sum, Path}
+use Rattle.tree.specs.Path.{Sum}
 use Rattle.tree.specs.Net.{Net, firstEnd, secondEnd, lengthOf}
-use Rattle.tree.specs.Rooted.{Above, Rooted}
+use Rattle.tree.specs.Rooted.{Rooted}
 use Rattle.tree.proofs.Members.{in-left, in-right, in-either}
 use Rattle.tree.proofs.OnePath.{unique}
 use Rattle.tree.proofs.RingExactly.{once}
 use Rattle.tree.proofs.Counts.{count-same, count-unique, count-some}
-use Rattle.marks.specs.Mark.{free, Free, HeldBy, RunNumber}
-use Rattle.marks.specs.Change.{Outcome, Changes, Done}
+use Rattle.marks.specs.Mark.{free, HeldBy, RunNumber}
+use Rattle.marks.specs.Change.{Changes, Done}
 use Rattle.marks.specs.Claim.{Between, InReach, Taken, SomeFree}
 use Rattle.marks.specs.Work.{Holds, one-free, Frees, Held}
 use Rattle.marks.proofs.Rises.{Whole}

@@ -1,5 +1,5 @@
 -- Claim over a walk: the climbs of the two nodes up to where they meet make the path, so what was measured and taken on them is the path's.
-use mathlib.Core.Path.{_≡_, refl, sym, ap, _∙_}
+use mathlib.Core.Path.{_≡_, refl, sym, _∙_}
 use mathlib.Core.Logic.{_≢_}
 use mathlib.Core.List.{List, _++_}
 use Prim.Native.Nat.{ℕ, _+_, _-_, _≤_, _<_}
@@ -41,7 +41,7 @@ module _ {s : List ℕ} {n : ℕ} {parent half place : List ℕ} (N : Net s n) (
       record { nodes = n; few = N .few; many = e; first = firstEnd s; second = secondEnd s; rooted = rooted; fits = b; low = grown .here x b .0; rows = q .0; rise = q .1 }
 
   module _ {before : List ℕ} {run a b t : ℕ} (R : Ready s before n run a b) (m : Meets (at parent) a b t) {l l′ k k′ : ℕ}
-    (ups : Measured s before parent half a t l k) (downs : Measured s before parent half b t l′ k′) where
+      (ups : Measured s before parent half a t l k) (downs : Measured s before parent half b t l′ k′) where
     whole : Whole rooted a b (ups .rows) (downs .rows)
     whole = two-rises rooted (R .pair .first) (R .pair .second) (ups .rise) (downs .rise) (λ z h j d. meets-apart walk-hung (R .pair .first) m h j d)
 

@@ -1,9 +1,9 @@
 -- The two loops along a climb: one measures it and counts its free rows, one takes them. What is passed and what is left are together the rows of the
 -- whole climb.
-use mathlib.Core.Path.{_≡_, refl, sym, ap, _∙_}
+use mathlib.Core.Path.{_≡_, refl, _∙_}
 use mathlib.Core.Logic.{_≢_}
 use mathlib.Core.List.{List, [], _∷_, _++_, append-assoc, append-nil}
-use Prim.Native.Nat.{ℕ, zero, suc, _+_, _-_, _*_, _≤_, _<_}
+use Prim.Native.Nat.{ℕ, _+_, _*_, _≤_, _<_}
 use native.Mathlib.Omega.{arith}
 use lib.ListN.{length, length-append}
 use Rattle.arrays.specs.Filled.{at}
@@ -11,7 +11,7 @@ use Rattle.tree.specs.Path.{Sum}
 use Rattle.tree.specs.Net.{lengthOf}
 use Rattle.tree.proofs.Rooted.{sum-snoc}
 use Rattle.marks.specs.Work.{one-free, Frees, Rise, rowOf, Climb, ShortRows, Measured, Held, Takes, Climbed}
-use Rattle.marks.proofs.Rises.{rise-next, rise-end, rise-short}
+use Rattle.marks.proofs.Rises.{rise-next, rise-end}
 use Rattle.marks.proofs.Held.{held-none, held-step, one-most}
 
 -- the climb from x to t stands at v, with the rows done behind it
@@ -49,7 +49,12 @@ module _ {marks parent half place : List ℕ} {x t : ℕ} where
         let w : Rise (at parent) (rowOf half) t x (done ++ (rowOf half v ∷ next .1)) = rw (next .2) at (a .whole) in
         rw (q, e) (record {
           left = record {
-            nodes = c .nodes; few = c .few; many = c .many; first = c .first; second = c .second; rooted = c .rooted;
+            nodes = c .nodes;
+            few = c .few;
+            many = c .many;
+            first = c .first;
+            second = c .second;
+            rooted = c .rooted;
             fits = c .rooted .par-fits v (c .fits) (next .0);
             low = omega (arith, along-less, c .low);
             rows = next .1;
@@ -85,7 +90,10 @@ module _ (s : List ℕ) {marks parent half place : List ℕ} {x t : ℕ} where
 
   pub measuring-end : {v l k : ℕ} → v ≡ t → Measuring s marks parent half place x t v l k → Measured s marks parent half x t l k
   measuring-end e m = record {
-    rows = m .done; rise = along-end e (m .along); long = m .long; frees = m .frees;
+    rows = m .done;
+    rise = along-end e (m .along);
+    long = m .long;
+    frees = m .frees;
     most = omega (arith, m .most, m .along .short);
     least = omega (arith, m .least, m .along .short);
   }

@@ -3,19 +3,18 @@ use mathlib.Core.Path.{_≡_, refl, sym, ap, _∙_}
 use mathlib.Core.Logic.{_⊎_, inl, inr, _≢_, ⊎-elim}
 use mathlib.Core.List.{List, [], _∷_, _++_}
 use Prim.Native.Nat.{ℕ, zero, suc, _+_, _≤_, _<_}
-use native.Mathlib.Decide.{ℕ-discrete, decLt}
+use native.Mathlib.Decide.{ℕ-discrete}
 use native.Mathlib.Nat.{zero-add}
 use native.Mathlib.Omega.{arith}
-use lib.ListN.{length, set, length-set, List·getD-eq-default}
-use lib.Seq.{getD-set-same, getD-set-other, ext-getD}
+use lib.ListN.{length, set, length-set}
+use lib.Seq.{getD-set-same, getD-set-other}
 use Rattle.arrays.specs.Filled as filled
 use Rattle.tree.specs.Members.{In, at, past, Distinct}
 use Rattle.tree.specs.Count.{Count}
 use Rattle.tree.proofs.Members.{in?, not-nil, in-left, in-right, in-either}
-use Rattle.tree.proofs.Counts.{count-same, count-none, count-one, count-add, count-unique}
+use Rattle.tree.proofs.Counts.{count-same, count-none, count-one, count-add}
 use Rattle.marks.specs.Mark.{Free}
-use Rattle.marks.specs.Change.{Changes}
-use Rattle.marks.specs.Work.{Holds, one-free, Frees, Held, Takes}
+use Rattle.marks.specs.Work.{one-free, Frees, Held, Takes}
 
 abbrev mark : List ℕ → ℕ → ℕ
 mark l r = filled.at l r

@@ -1,4 +1,4 @@
--- Laws of marks, by topic.
+-- Laws of marks, by topic. Theorems has what claim, commit and abort change; MarksOnly that each promise allows one outcome.
 pub mod Weights
 pub mod Rises
 pub mod Held
@@ -6,3 +6,5 @@ pub mod Climbing
 pub mod Replacing
 pub mod Changed
 pub mod Claims
+pub mod MarksOnly
+pub mod Theorems

@@ -5,7 +5,7 @@ use mathlib.Core.List.{List}
 use Prim.Native.Nat.{ℕ, _+_, _≤_, _<_}
 use native.Mathlib.Decide.{ℕ-discrete, decLt}
 use native.Mathlib.Omega.{arith}
-use lib.ListN.{length, set, length-set, List·getD-eq-default}
+use lib.ListN.{length, set, length-set}
 use lib.Seq.{getD-set-same, getD-set-other}
 use Rattle.arrays.specs.Filled.{at}
 use Rattle.tree.specs.Count.{Count}
@@ -28,9 +28,12 @@ pub record Replacing (old new : ℕ) (before : List ℕ) (i k : ℕ) (now : List
 
 pub replacing-start : (old new : ℕ) (before : List ℕ) → Replacing old new before 0 0 before
 replacing-start old new before = record {
-  within = omega arith; same-many = refl;
-  becomes = λ r h. absurd (omega (arith, h .fits)); stays = λ r n. refl;
-  count = count-none (λ r h. omega (arith, h .fits)); few = omega arith;
+  within = omega arith;
+  same-many = refl;
+  becomes = λ r h. absurd (omega (arith, h .fits));
+  stays = λ r n. refl;
+  count = count-none (λ r h. omega (arith, h .fits));
+  few = omega arith;
 }
 
 module _ {old new : ℕ} {before : List ℕ} {i k : ℕ} {now : List ℕ} (h : Replacing old new before i k now) (l : i < length before) where

@@ -1,5 +1,4 @@
 -- Claim: each free branch of the path between two nodes becomes held by the run.
-use mathlib.Core.Path.{_≡_}
 use mathlib.Core.Logic.{_≢_}
 use mathlib.Core.List.{List}
 use Prim.Native.Nat.{ℕ, _-_, _≤_, _<_}

@@ -1,8 +1,8 @@
 -- Working statements of private functions, no part of the promises.
 use mathlib.Core.Path.{_≡_}
 use mathlib.Core.Logic.{_≢_}
-use mathlib.Core.List.{List, [], _∷_, _++_}
-use Prim.Native.Nat.{ℕ, zero, suc, _+_, _-_, _/_, _≤_, _<_}
+use mathlib.Core.List.{List, [], _∷_}
+use Prim.Native.Nat.{ℕ, zero, suc, _-_, _/_, _≤_, _<_}
 use lib.ListN.{length, set}
 use Rattle.arrays.specs.Filled.{at}
 use Rattle.tree.specs.Members.{In}

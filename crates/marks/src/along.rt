@@ -134,7 +134,18 @@ fn claim_walked(
     let mut order: [u16; 4096] = [0; 4096];
     let mut place: [u16; 4096] = [0; 4096];
     tree::walk(table, nodes, &mut parent, &mut half, &mut order, &mut place);
-    claim_path(table, marks, &parent, &half, &place, nodes, bound, run, a, b)
+    claim_path(
+        table,
+        marks,
+        &parent,
+        &half,
+        &place,
+        nodes,
+        bound,
+        run,
+        a,
+        b,
+    )
 }
 
 // In an accepted net: 13, 14, 15, and then along the path.

@@ -11,6 +11,7 @@ mod along;
 mod settle;
 
 pub(crate) const FREE: u16 = 0;
+
 pub(crate) const SPENT: u16 = 65535;
 
 // How many marks an operation changed, or why it did nothing.

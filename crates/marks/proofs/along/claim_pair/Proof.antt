@@ -1,59 +1,40 @@
 -- `marks::along::claim_pair` meets its contract: 13, 14 and 15 as the tests have it, then as `claim_walked` says.
 use Rattle.table.specs.Refuse.{refused, passed}
-use Prim.Native.Nat.{ℕ, _+_, _-_, _≤_, _<_}
-use mathlib.Core.Path.{_≡_, refl, sym, ap, _∙_}
-use mathlib.Core.Logic.{⊎-elim, inl, inr}
 use native.Mathlib.Omega.{arith}
-use lib.ListN.{length, getD, set}
 use borrow.Author.Needs.{needs}
 use Rattle.marks.proofs.along.claim_pair.Statement.{statement}
 use Rattle.marks.proofs.along.claim_pair.Tie as tie
-use Rattle.marks.proofs.along.claim_pair.Reads as reads
-use Rattle.marks.proofs.along.claim_pair.Lts as lts
-use Rattle.arrays.proofs.wide.Reads as wide-reads
-use Rattle.marks.proofs.along.claim_walked.Reads as claim-walked-reads
 
--- src/along.rt:153:8
 add-if1 : tie.Need-add-if1
 add-if1 c = search needs
 
--- src/along.rt:153:27
 wide-requires : tie.Need-wide-requires
 wide-requires c κs = search needs
 
--- src/along.rt:154:9
 returns : tie.Need-returns
 returns c = refused (λ e. omega (arith, c .if1 .taken, c .before .wide .ensures .0, c .before .before .before .before .pre .some))
 
--- src/along.rt:157:9
 returns-2 : tie.Need-returns-2
 returns-2 c = passed (omega (arith, c .before .if1 .left, c .before .before .wide .ensures .0)) (refused (λ n. omega (arith, n .above)))
 
--- src/along.rt:160:9
 returns-3 : tie.Need-returns-3
 returns-3 c = passed (omega (arith, c .before .before .if1 .left, c .before .before .before .wide .ensures .0)) (refused (λ n. omega (arith, n .below)))
 
--- src/along.rt:163:9
 returns-4 : tie.Need-returns-4
 returns-4 c = passed (omega (arith, c .before .before .before .if1 .left, c .before .before .before .before .wide .ensures .0)) (passed (record { above = omega (arith, c .before .before .if2 .left); below = omega (arith, c .before .if3 .left) }) (refused (λ p. omega (arith, p .first))))
 
--- src/along.rt:166:9
 returns-5 : tie.Need-returns-5
 returns-5 c = passed (omega (arith, c .before .before .before .before .if1 .left, c .before .before .before .before .before .wide .ensures .0)) (passed (record { above = omega (arith, c .before .before .before .if2 .left); below = omega (arith, c .before .before .if3 .left) }) (refused (λ p. omega (arith, p .second))))
 
--- src/along.rt:169:9
 returns-6 : tie.Need-returns-6
 returns-6 c = passed (omega (arith, c .before .before .before .before .before .if1 .left, c .before .before .before .before .before .before .wide .ensures .0)) (passed (record { above = omega (arith, c .before .before .before .before .if2 .left); below = omega (arith, c .before .before .before .if3 .left) }) (refused (λ p. p .apart (c .if6 .taken))))
 
--- src/along.rt:171:5
 claim-walked-requires : tie.Need-claim-walked-requires
 claim-walked-requires c κs = record { net = c .before .before .before .before .before .before .before .before .before .before .pre; many = omega (arith, c .before .before .before .before .before .before .if1 .left, c .before .before .before .before .before .before .before .wide .ensures .0); number = record { above = omega (arith, c .before .before .before .before .before .if2 .left); below = omega (arith, c .before .before .before .before .if3 .left) }; pair = record { first = omega (arith, c .before .before .before .if4 .left); second = omega (arith, c .before .before .if5 .left); apart = c .before .if6 .left } }
 
--- src/along.rt:141:1
 same-length : tie.Need-same-length
 same-length c = search needs
 
--- src/along.rt:141:1
 returns-7 : tie.Need-returns-7
 returns-7 c = passed (omega (arith, c .before .before .before .before .before .before .before .before .before .if1 .left, c .before .before .before .before .before .before .before .before .before .before .wide .ensures .0)) (passed (record { above = omega (arith, c .before .before .before .before .before .before .before .before .if2 .left); below = omega (arith, c .before .before .before .before .before .before .before .if3 .left) }) (passed (record { first = omega (arith, c .before .before .before .before .before .before .if4 .left); second = omega (arith, c .before .before .before .before .before .if5 .left); apart = c .before .before .before .before .if6 .left }) (c .before .before .claim-walked .ensures)))
 

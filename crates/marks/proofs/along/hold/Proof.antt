@@ -1,19 +1,12 @@
 -- `marks::along::hold` meets its contract. The loop's invariant: the rows behind and the rows ahead are the climb's, and the free ones behind are held.
 use Rattle.arrays.specs.Filled.{at}
 use Rattle.marks.proofs.Climbing.{Taking, taking-start, taking-row, taking-step, taking-end, along-fits, along-less}
-use Prim.Native.Nat.{_/_}
-use Prim.Native.Nat.{ℕ, _+_, _-_, _≤_, _<_}
-use mathlib.Core.Path.{_≡_, refl, sym, ap, _∙_}
-use mathlib.Core.Logic.{⊎-elim, inl, inr}
+use Prim.Native.Nat.{_/_, ℕ}
+use mathlib.Core.Path.{ap}
 use native.Mathlib.Omega.{arith}
-use lib.ListN.{length, getD, set}
 use borrow.Author.Needs.{needs}
 use Rattle.marks.proofs.along.hold.Statement.{statement}
 use Rattle.marks.proofs.along.hold.Tie as tie
-use Rattle.marks.proofs.along.hold.Reads as reads
-use Rattle.marks.proofs.along.hold.Lts as lts
-use Rattle.arrays.proofs.wide.Reads as wide-reads
-use Rattle.marks.proofs.along.take.Reads as take-reads
 
 abbrev Inv-loop : tie.InvT-loop
 Inv-loop marks₀ parent half place x t run v₀ marks v = Taking marks₀ parent half place x t run v marks
@@ -21,51 +14,39 @@ Inv-loop marks₀ parent half place x t run v₀ marks v = Taking marks₀ paren
 abbrev μ-loop : tie.MeasureT-loop
 μ-loop marks₀ parent half place x t run v₀ marks v = at place v
 
--- src/along.rt:80:5
 loop-holds : tie.Need-loop-holds Inv-loop μ-loop
 loop-holds c = taking-start (c .before .pre .0)
 
--- src/along.rt:81:30
 mul-wide : tie.Need-mul-wide Inv-loop μ-loop
 mul-wide c = omega (arith, along-fits (c .before .loop .inv .along) (c .loop-test .taken))
 
--- src/along.rt:81:30
 element-copy-out-wide : tie.Need-element-copy-out-wide Inv-loop μ-loop
 element-copy-out-wide c = omega (arith, along-fits (c .before .loop .inv .along) (c .loop-test .taken))
 
--- src/along.rt:81:17
 wide-requires : tie.Need-wide-requires Inv-loop μ-loop
 wide-requires c κs = search needs
 
--- src/along.rt:82:9
 take-requires : tie.Need-take-requires Inv-loop μ-loop
 take-requires c κs = let e = c .before .wide .ensures .0 in omega (arith, taking-row (c .before .before .before .loop-test .taken) (c .before .before .before .before .loop .inv))
 
--- src/along.rt:83:26
 mul-wide-2 : tie.Need-mul-wide-2 Inv-loop μ-loop
 mul-wide-2 c = omega (arith, along-fits (c .before .before .before .before .before .before .before .loop .inv .along) (c .before .before .before .before .before .before .loop-test .taken))
 
--- src/along.rt:83:26
 element-copy-out-wide-2 : tie.Need-element-copy-out-wide-2 Inv-loop μ-loop
 element-copy-out-wide-2 c = omega (arith, along-fits (c .before .before .before .before .before .before .before .loop .inv .along) (c .before .before .before .before .before .before .loop-test .taken))
 
--- src/along.rt:83:9
 wide-requires-2 : tie.Need-wide-requires-2 Inv-loop μ-loop
 wide-requires-2 c κs = search needs
 
--- src/along.rt:80:5
 loop-less : tie.Need-loop-less Inv-loop μ-loop
 loop-less c = omega (arith, along-less (c .before .before .before .before .before .before .before .before .before .loop .inv .along) (c .before .before .before .before .before .before .before .before .loop-test .taken), ap (at (c .before .before .before .before .before .before .before .before .before .before .before .args .place .now)) (c .wide2 .ensures .0))
 
--- src/along.rt:80:5
 loop-again : tie.Need-loop-again Inv-loop μ-loop
 loop-again c = taking-step (λ e. omega (arith, c .before .before .before .before .before .before .before .before .before .before .before .pre .1)) (c .before .before .before .before .before .before .before .before .before .loop .inv) (c .before .before .before .before .before .before .before .before .loop-test .taken) (ap (λ (z : ℕ). z / 2) (c .before .before .before .before .before .before .wide .ensures .0)) (c .wide2 .ensures .0) (c .before .before .before .before .take .ensures)
 
--- src/along.rt:67:1
 same-length : tie.Need-same-length Inv-loop μ-loop
 same-length c = c .before .loop .inv .held .same-many
 
--- src/along.rt:67:1
 returns : tie.Need-returns Inv-loop μ-loop
 returns c = taking-end (omega (arith, c .loop-test .left)) (c .before .loop .inv)
 

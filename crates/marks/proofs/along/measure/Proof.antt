@@ -4,21 +4,13 @@ use Rattle.arrays.specs.Filled.{at}
 use Rattle.marks.proofs.Climbing.{Measuring, measuring-start, measuring-step, measuring-end, along-fits, along-row, along-less}
 use Rattle.marks.proofs.Held.{one-most}
 use Rattle.tree.proofs.Net.{reads-length}
-use Prim.Native.Nat.{_/_}
-use Prim.Native.Nat.{ℕ, _+_, _-_, _≤_, _<_}
-use mathlib.Core.Path.{_≡_, refl, sym, ap, _∙_}
-use mathlib.Core.Logic.{⊎-elim, inl, inr}
+use Prim.Native.Nat.{_/_, ℕ}
+use mathlib.Core.Path.{ap, _∙_}
 use native.Mathlib.Omega.{arith}
-use lib.ListN.{length, getD, set}
+use lib.ListN.{length}
 use borrow.Author.Needs.{needs}
 use Rattle.marks.proofs.along.measure.Statement.{statement}
 use Rattle.marks.proofs.along.measure.Tie as tie
-use Rattle.marks.proofs.along.measure.Reads as reads
-use Rattle.marks.proofs.along.measure.Lts as lts
-use Rattle.arrays.proofs.long.Reads as long-reads
-use Rattle.arrays.proofs.wide.Reads as wide-reads
-use Rattle.marks.proofs.along.one_free.Reads as one-free-reads
-use Rattle.table.proofs.row_at.Reads as row-at-reads
 
 abbrev Inv-loop : tie.InvT-loop
 Inv-loop table marks parent half place x t v₀ length₀ free₀ v length free = Measuring table marks parent half place x t v length free
@@ -26,74 +18,57 @@ Inv-loop table marks parent half place x t v₀ length₀ free₀ v length free 
 abbrev μ-loop : tie.MeasureT-loop
 μ-loop table marks parent half place x t v₀ length₀ free₀ v length free = at place v
 
--- src/along.rt:46:5
 loop-holds : tie.Need-loop-holds Inv-loop μ-loop
 loop-holds c = measuring-start (c .before .before .args .table .now) (c .before .before .pre .0)
 
--- src/along.rt:47:30
 mul-wide : tie.Need-mul-wide Inv-loop μ-loop
 mul-wide c = omega (arith, along-fits (c .before .loop .inv .along) (c .loop-test .taken))
 
--- src/along.rt:47:30
 element-copy-out-wide : tie.Need-element-copy-out-wide Inv-loop μ-loop
 element-copy-out-wide c = omega (arith, along-fits (c .before .loop .inv .along) (c .loop-test .taken))
 
--- src/along.rt:47:17
 wide-requires : tie.Need-wide-requires Inv-loop μ-loop
 wide-requires c κs = search needs
 
--- src/along.rt:48:13
 row-at-requires : tie.Need-row-at-requires Inv-loop μ-loop
 row-at-requires c κs = search needs
 
--- src/along.rt:50:19
 long-requires : tie.Need-long-requires Inv-loop μ-loop
 long-requires c κs = search needs
 
--- src/along.rt:50:9
 add-length : tie.Need-add-length Inv-loop μ-loop
 add-length c = omega (arith, c .long .ensures .1, c .before .before .before .before .before .loop .inv .most, c .before .before .before .before .before .loop .inv .along .short)
 
--- src/along.rt:51:26
 mul-one-free : tie.Need-mul-one-free Inv-loop μ-loop
 mul-one-free c = let e = c .before .before .wide .ensures .0 in omega (arith, along-row (c .before .before .before .before .before .loop .inv .along) (c .before .before .before .before .loop-test .taken))
 
--- src/along.rt:51:26
 shared-slice-read-one-free : tie.Need-shared-slice-read-one-free Inv-loop μ-loop
 shared-slice-read-one-free c = let e = c .before .before .before .wide .ensures .0 in omega (arith, along-row (c .before .before .before .before .before .before .loop .inv .along) (c .before .before .before .before .before .loop-test .taken))
 
--- src/along.rt:51:17
 one-free-requires : tie.Need-one-free-requires Inv-loop μ-loop
 one-free-requires c κs = search needs
 
--- src/along.rt:51:9
 add-free : tie.Need-add-free Inv-loop μ-loop
 add-free c = omega (arith, c .one-free .ensures, c .before .before .before .before .before .before .before .loop .inv .least, c .before .before .before .before .before .before .before .loop .inv .along .short, one-most (at (c .before .before .before .before .before .before .before .before .before .before .args .marks .now) (c .before .before .before .before .wide .result / 2)))
 
--- src/along.rt:52:26
 mul-wide-2 : tie.Need-mul-wide-2 Inv-loop μ-loop
 mul-wide-2 c = omega (arith, along-fits (c .before .before .before .before .before .before .before .loop .inv .along) (c .before .before .before .before .before .before .loop-test .taken))
 
--- src/along.rt:52:26
 element-copy-out-wide-2 : tie.Need-element-copy-out-wide-2 Inv-loop μ-loop
 element-copy-out-wide-2 c = omega (arith, along-fits (c .before .before .before .before .before .before .before .loop .inv .along) (c .before .before .before .before .before .before .loop-test .taken))
 
--- src/along.rt:52:9
 wide-requires-2 : tie.Need-wide-requires-2 Inv-loop μ-loop
 wide-requires-2 c κs = search needs
 
--- src/along.rt:46:5
 loop-less : tie.Need-loop-less Inv-loop μ-loop
 loop-less c = omega (arith, along-less (c .before .before .before .before .before .before .before .before .before .loop .inv .along) (c .before .before .before .before .before .before .before .before .loop-test .taken), ap (at (c .before .before .before .before .before .before .before .before .before .before .before .before .args .place .now)) (c .wide2 .ensures .0))
 
--- src/along.rt:46:5
 loop-again : tie.Need-loop-again Inv-loop μ-loop
 loop-again c = let q = ap (λ (z : ℕ). z / 2) (c .before .before .before .before .before .before .wide .ensures .0) in
     measuring-step (c .before .before .before .before .before .before .before .before .before .before .before .before .args .table .now) (c .before .before .before .before .before .before .before .before .before .before .before .before .pre .1) (c .before .before .before .before .before .before .before .before .before .loop .inv) (c .before .before .before .before .before .before .before .before .loop-test .taken) q (c .wide2 .ensures .0)
     (c .before .before .before .before .long .ensures .0 ∙ reads-length (c .before .before .before .before .before .before .before .before .before .before .before .before .pre .1 .stands _ (rw (← q) at (along-row (c .before .before .before .before .before .before .before .before .before .loop .inv .along) (c .before .before .before .before .before .before .before .before .loop-test .taken)))) (c .before .before .before .before .before .row-at .ensures))
     (c .before .before .one-free .ensures)
 
--- src/along.rt:31:1
 returns : tie.Need-returns Inv-loop μ-loop
 returns c = measuring-end (c .before .before .before .before .args .table .now) (omega (arith, c .loop-test .left)) (c .before .loop .inv)
 

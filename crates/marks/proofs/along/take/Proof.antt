@@ -1,40 +1,27 @@
 -- `marks::along::take` meets its contract: the mark is set exactly where it was free.
-use Prim.Native.Nat.{ℕ, _+_, _-_, _≤_, _<_}
-use mathlib.Core.Path.{_≡_, refl, sym, ap, _∙_}
-use mathlib.Core.Logic.{⊎-elim, inl, inr}
-use native.Mathlib.Omega.{arith}
-use lib.ListN.{length, getD, set}
+use mathlib.Core.Path.{refl}
 use borrow.Author.Needs.{needs}
 use Rattle.marks.proofs.along.take.Statement.{statement}
 use Rattle.marks.proofs.along.take.Tie as tie
-use Rattle.marks.proofs.along.take.Reads as reads
-use Rattle.marks.proofs.along.take.Lts as lts
 
--- src/along.rt:61:8
 mul-if1 : tie.Need-mul-if1
 mul-if1 c = search needs
 
--- src/along.rt:61:8
 slice-read-if1 : tie.Need-slice-read-if1
 slice-read-if1 c = search needs
 
--- src/along.rt:62:9
 mul-marks : tie.Need-mul-marks
 mul-marks c = search needs
 
--- src/along.rt:62:9
 slice-write-marks : tie.Need-slice-write-marks
 slice-write-marks c = search needs
 
--- src/along.rt:57:1
 same-length : tie.Need-same-length
 same-length c = search needs
 
--- src/along.rt:57:1
 returns : tie.Need-returns
 returns c = record { taken = λ _. refl; left = λ n. absurd (n (c .if1 .taken)) }
 
--- src/along.rt:57:1
 returns-2 : tie.Need-returns-2
 returns-2 c = record { taken = λ e. absurd (c .if1 .left e); left = λ _. refl }
 

@@ -1,15 +1,10 @@
 -- `marks::settle::replace` meets its contract. The loop's invariant: places below i that held `old` hold `new`, all others are as they were, k counts the former.
 use Rattle.marks.proofs.Replacing.{Replacing, replacing-start, replacing-hit, replacing-miss, replacing-end}
-use Prim.Native.Nat.{ℕ, _+_, _-_, _≤_, _<_}
-use mathlib.Core.Path.{_≡_, refl, sym, ap, _∙_}
-use mathlib.Core.Logic.{⊎-elim, inl, inr}
+use Prim.Native.Nat.{_-_}
 use native.Mathlib.Omega.{arith}
-use lib.ListN.{length, getD, set}
-use borrow.Author.Needs.{needs}
+use lib.ListN.{length}
 use Rattle.marks.proofs.settle.replace.Statement.{statement}
 use Rattle.marks.proofs.settle.replace.Tie as tie
-use Rattle.marks.proofs.settle.replace.Reads as reads
-use Rattle.marks.proofs.settle.replace.Lts as lts
 
 abbrev Inv-loop : tie.InvT-loop
 Inv-loop marks₀ old new k₀ i₀ marks k i = Replacing old new marks₀ i k marks
@@ -17,55 +12,42 @@ Inv-loop marks₀ old new k₀ i₀ marks k i = Replacing old new marks₀ i k m
 abbrev μ-loop : tie.MeasureT-loop
 μ-loop marks₀ old new k₀ i₀ marks k i = length marks₀ - i
 
--- src/settle.rt:19:5
 loop-holds : tie.Need-loop-holds Inv-loop μ-loop
 loop-holds c = replacing-start _ _ _
 
--- src/settle.rt:21:9
 add-i : tie.Need-add-i Inv-loop μ-loop
 add-i c = omega arith
 
--- src/settle.rt:22:12
 mul-if1 : tie.Need-mul-if1 Inv-loop μ-loop
 mul-if1 c = omega arith
 
--- src/settle.rt:22:12
 slice-read-if1 : tie.Need-slice-read-if1 Inv-loop μ-loop
 slice-read-if1 c = omega arith
 
--- src/settle.rt:23:13
 mul-marks : tie.Need-mul-marks Inv-loop μ-loop
 mul-marks c = omega arith
 
--- src/settle.rt:23:13
 slice-write-marks : tie.Need-slice-write-marks Inv-loop μ-loop
 slice-write-marks c = omega arith
 
--- src/settle.rt:24:13
 add-k : tie.Need-add-k Inv-loop μ-loop
 add-k c = omega (arith, c .before .before .before .loop .inv .few, c .before .before .before .loop .inv .within, c .before .before .before .before .pre)
 
--- src/settle.rt:19:5
 loop-less : tie.Need-loop-less Inv-loop μ-loop
 loop-less c = omega (arith, c .before .before .before .loop .inv .same-many)
 
--- src/settle.rt:19:5
 loop-again : tie.Need-loop-again Inv-loop μ-loop
 loop-again c = replacing-hit (c .before .before .before .loop .inv) (omega (arith, c .before .before .before .loop .inv .same-many)) (c .if1 .taken)
 
--- src/settle.rt:19:5
 loop-less-2 : tie.Need-loop-less-2 Inv-loop μ-loop
 loop-less-2 c = omega (arith, c .before .before .before .loop .inv .same-many)
 
--- src/settle.rt:19:5
 loop-again-2 : tie.Need-loop-again-2 Inv-loop μ-loop
 loop-again-2 c = replacing-miss (c .before .before .before .loop .inv) (omega (arith, c .before .before .before .loop .inv .same-many)) (c .if1 .left)
 
--- src/settle.rt:13:1
 same-length : tie.Need-same-length Inv-loop μ-loop
 same-length c = c .before .loop .inv .same-many
 
--- src/settle.rt:13:1
 returns : tie.Need-returns Inv-loop μ-loop
 returns c = replacing-end (omega (arith, c .before .loop .inv .same-many)) (c .before .loop .inv)
 
