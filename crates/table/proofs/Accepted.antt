@@ -1,10 +1,11 @@
 -- What a table that passed has, for this crate and those above: an opened header's facts, an accepted table's facts, and how an operation that begins
 -- with `examine` hands a refusal on or goes on where there is none.
-use mathlib.Core.Path.{_≡_, ap}
-use mathlib.Core.List.{List}
-use Prim.Native.Nat.{ℕ, _+_, _*_, _≤_, _<_}
+use mathlib.Core.Path.{_≡_, refl, ap}
+use mathlib.Core.List.{List, [], _∷_}
+use Prim.Native.Nat.{ℕ, _+_, _-_, _*_, _≤_, _<_}
 use native.Mathlib.Omega.{arith}
-use lib.ListN.{length}
+use lib.ListN.{length, take}
+use native.Mathlib.Nat.{sub-zero}
 use Rattle.table.specs.Refuse.{passed, fine}
 use Rattle.table.specs.Bytes.{byteAt}
 use Rattle.table.specs.Signed.{Within}
@@ -118,3 +119,15 @@ pub passed-on : {A : Type 0} (refuse : ℕ → ℕ → A) {rest : A → Type 0} 
 passed-on refuse s n b p r =
     let h = header-past refusal (λ k r. not-refused) p in
     past-header refuse {s = s} (h .0) (fine (past-rows (λ k r. not-refused) (h .1) .0) r)
+
+-- how a function that begins with `open_table` hands a refusal on
+pub refused-header : {A : Type 0} (refuse : ℕ → ℕ → A) {rest : A → Type 0} (s : List ℕ) (w : Refusal) → Opens s (outcome (Refused w)) → Header A refuse s rest (refuse (w .number) (w .row))
+refused-header refuse s w p = header-map (λ o. refuse (o .number) (o .row)) refusal s (λ h e. absurd (nothing-found s h e)) p
+
+-- all of a list is its part from 0 to its end
+pub take-all : (s : List ℕ) → take (length s - 0) s ≡ s
+take-all s = rw sub-zero (all s)
+  where
+    all : (s : List ℕ) → take (length s) s ≡ s
+    all [] = refl
+    all (x ∷ xs) = ap (λ (l : List ℕ). x ∷ l) (all xs)

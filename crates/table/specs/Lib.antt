@@ -7,3 +7,4 @@ pub mod Row
 pub mod Lift
 pub mod Examine
 pub mod Outcome
+pub mod Reader

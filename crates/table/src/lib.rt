@@ -11,6 +11,7 @@ ghost use Rattle.table.specs.Outcome.{Outcome, outcome, refusal, found, 
 ghost use Rattle.table.specs.Row.{Stands, Standing, PartOf, NextOf, RowOf, rowAt};
 ghost use Rattle.table.specs.Examine.{RowNumber, Rows};
 ghost use Rattle.table.specs.Lift.{LiftedOf, LoweredOf};
+ghost use Rattle.table.specs.Reader.{HeldOf, Stepped, FirstOf};
 
 // What is refused, by the paper's number, and the row it names: 0 where none is named.
 pub struct Refusal {
@@ -250,4 +251,49 @@ pub fn examine(s: &[u8]) -> Opening
         Opening::Refused(why) => Opening::Refused(why),
         Opening::Opened { nodes, bound } => rows(s, nodes, bound),
     }
+}
+
+// What a reader of s holds: all of s, or an empty part where its header is refused.
+pub fn held(s: &[u8]) -> &[u8]
+    ensures { λ q. ⌜ HeldOf (now (s .entry)) (ptr (s .entry)) (now q) (ptr q) ⌝ }
+{
+    let o = open_table(s);
+    match o {
+        Opening::Refused(_) => &s[0..0],
+        Opening::Opened { nodes: _, bound: _ } => &s[0..],
+    }
+}
+
+// The row reader: the lent table itself together with the row it stands at.
+pub struct Reader<'a> {
+    pub table: &'a [u8],
+    pub row: usize,
+}
+
+// Opens a reader at row 0.
+pub fn read_from<'a>(table: &'a [u8]) -> Reader<'a>
+    ensures { λ r. ⌜ HeldOf (now (table .entry)) (ptr (table .entry)) (now (r .table)) (ptr (r .table)) × (r .row ≡ 0) ⌝ }
+{
+    let t = held(table);
+    Reader { table: t, row: 0 }
+}
+
+// Hands back the caller's own 12 bytes of the row it stands at and moves on by one; where none stand there, an empty part, and stays.
+pub fn step<'s, 'a>(r: &'s mut Reader<'a>) -> &'a [u8]
+    ensures { λ q. ⌜ (now (r .exit) .table ≡ now (r .entry) .table) × Stepped (now (now (r .entry) .table)) (ptr (now (r .entry) .table)) (now (r .entry) .row) (now q) (ptr q) (now (r .exit) .row) ⌝ }
+{
+    let t = r.table;
+    let k = r.row;
+    let p = row_part(t, k);
+    let n = next_row(t, k);
+    r.row = n;
+    p
+}
+
+// The first row's part, by a reader of its own: for callers that have a slice and want no reader.
+pub fn first_row(table: &[u8]) -> &[u8]
+    ensures { λ q. ⌜ FirstOf (now (table .entry)) (ptr (table .entry)) (now q) (ptr q) ⌝ }
+{
+    let mut r = read_from(table);
+    step(&mut r)
 }
