@@ -8,3 +8,4 @@ pub mod Numbers
 pub mod Chosen
 pub mod Choosing
 pub mod Weighing
+pub mod Only

@@ -1,31 +1,36 @@
 -- From climbs to paths: where the climbs of two nodes meet, the distances and weights from the root give the length and the weight of the path
 -- between them. So the best pair over climbs is the best over the net's own paths.
 use Prim.Native.Nat.{ℕ, zero, suc, _+_, _*_, _≤_, _<_}
-use mathlib.Core.Path.{_≡_, refl, sym, ap}
-use mathlib.Core.Logic.{_⊎_, inl, inr, _≢_}
-use mathlib.Core.List.{List}
+use mathlib.Core.Path.{_≡_, refl, ap}
+use mathlib.Core.Logic.{_⊎_, inl, inr, _≢_, ⊎-elim}
+use mathlib.Core.List.{List, _∷_}
 use native.Mathlib.Omega.{arith}
-use native.Mathlib.Decide.{ℕ-discrete, decLt}
+use native.Mathlib.Decide.{ℕ-discrete}
 use lib.IntN.{ℤ, subℕ, _+ℤ_}
+use lib.ListN.{length}
 use Rattle.arrays.specs.Filled.{at}
 use Rattle.table.specs.Signed.{Diff}
-use Rattle.table.proofs.Lift.{diff, same, sum, order-back, lift-only}
-use Rattle.tree.specs.Rooted.{Above}
+use Rattle.table.proofs.Lift.{diff, same, sum, lift-only}
+use Rattle.tree.specs.Members.{In}
+use Rattle.tree.specs.Graph.{Walk, stop, go}
 use Rattle.tree.specs.Path.{Sum}
+use Rattle.tree.specs.Rooted.{Above, self, up}
 use Rattle.tree.specs.Value.{Total, Value}
-use Rattle.tree.proofs.Above.{fits-up}
+use Rattle.tree.proofs.Above.{Tree, fits-up}
+use Rattle.tree.proofs.Counts.{upto, upto-length, upto-in, distinct-le}
+use Rattle.tree.proofs.Far.{far, far-sums}
 use Rattle.tree.proofs.Grown.{grown-tree}
-use Rattle.tree.proofs.Values.{length-only, weight-only, value-none, value-down}
 use Rattle.tree.proofs.Rooted.{above-inv}
-use Rattle.tree.proofs.Route.{Route, route, route-value}
+use Rattle.tree.proofs.Route.{Sums, Route, route, route-value}
+use Rattle.tree.proofs.Values.{length-only, weight-only, value-none, value-down}
 use Rattle.paths.specs.Ground.{Ground}
 use Rattle.paths.specs.Paths.{Paths}
 use Rattle.lists.specs.Pairs.{best4, Le}
 use Rattle.lists.specs.declared.across.Best.{Best}
 use Rattle.runs.specs.Lift.{lift}
-use Rattle.places.proofs.Chosen.{Lifted, Met, Found, Chosen}
+use Rattle.places.specs.Heaviest.{Carried, Heaviest}
+use Rattle.places.proofs.Chosen.{Lifted, Found, Chosen}
 use Rattle.places.proofs.Chosen as climbs
-use Rattle.places.specs.Heaviest.{AtLeast, Pair, Heaviest, none, some}
 
 -- two sides of one signed number
 sides : {a b c d : ℕ} {z : ℤ} → Diff a b z → Diff c d z → a + d ≡ c + b
@@ -34,12 +39,17 @@ sides {a} {b} {c} {d} {z} p q =
     let q′ : Diff (c + b) (b + d) z = same (omega arith) q in
     lift-only p′ q′
 
+-- a walk meets a node a row
+as-many : {u v : ℕ → ℕ} {P : ℕ → Type 0} {a b : ℕ} {rs ns : List ℕ} → Walk u v P a rs ns b → Sum (λ r. 1) rs ≡ length ns
+as-many stop = refl
+as-many (go h e w) = omega (arith, as-many w)
+
 equally : {a b : ℕ} {y z : ℤ} → y ≡ z → Diff a b z → Diff a b y
 equally e h = rw e h
 
 module _ {n : ℕ} {parent order place bl bw : List ℕ} (g : Ground n parent order place bl bw) (d w : List ℕ) (P : Paths g 0 d w) where
   abbrev From : ℕ → ℕ → ℕ → ℤ → Type 0
-  From x y l z = Value (g .u) (g .v) (g .k) (g .long) (g .heavy) x y l z
+  From = Value (g .u) (g .v) (g .k) (g .long) (g .heavy)
 
   from-root : (x : ℕ) → x < n → From 0 x (at d x) (subℕ (at w x) 8589934592)
   from-root x b = P .value x b (subℕ (at w x) 8589934592) (diff (at w x) 8589934592)
@@ -83,107 +93,75 @@ module _ {n : ℕ} {parent order place bl bw : List ℕ} (g : Ground n parent or
   pub w-low : Lifted n w
   w-low = record { low = λ x b. omega (arith, P .small x b) }
 
-  moved : {x y a b l : ℕ} {z : ℤ} → a ≡ x → b ≡ y → Pair g x y l z → Pair g a b l z
-  moved e f p = rw (e, f) p
+  T : Tree n (at parent) (at place)
+  T = grown-tree (g .grown)
+
+  -- how many branches a climb has
+  depth : ℕ → ℕ
+  depth = far (at parent) (g .row) n (λ r. 1)
+
+  deeper : Sums (at parent) (g .row) n (λ r. 1) depth
+  unfolding depth
+  deeper = far-sums T (g .row) (λ r. 1)
+
+  -- along a climb the weight changes by at most 1,000,000 a branch
+  steps : {t x : ℕ} → x < n → Above (at parent) t x → (at w x + 1000000 * depth t ≤ at w t + 1000000 * depth x) × (at w t + 1000000 * depth t ≤ at w x + 1000000 * depth x)
+  steps b self = (omega arith, omega arith)
+  steps {t} {x} b (up {y} z e h) =
+      let i = steps (rw e at (g .grown .fits x b z)) h in
+      let u : at w x + 1000000 ≡ at bw x + at w y = rw e at (sides (w-up x b z) (g .weight-is x b z)) in
+      let v : depth x ≡ depth y + 1 = rw e at (deeper x b z) in
+      let l = g .light x b z in
+      (omega (arith, i .0), omega (arith, i .1))
+
+  -- a path has fewer branches than there are nodes
+  module _ {t x y : ℕ} (bx : x < n) (by : y < n) (m : Route (g .rooted) T t x y) where
+    fits : (z : ℕ) → In z (x ∷ m .nodes) → z < n
+    fits z i = ⊎-elim (fits-up T bx) (fits-up T by) (m .only z i .1)
+
+    few : length (m .nodes) < n
+    few = omega (arith, upto-length n, distinct-le (x ∷ m .nodes) (upto n) (m .once) (λ z i. upto-in n z (fits z i)))
+
+    branches : Sum (λ r. 1) (m .rows) < n
+    branches = omega (arith, few, as-many (m .walk))
 
   -- what the lists weigh is the path's length and weight
-  record Weighed (x y : ℕ) (b : Best) : Type 0 where
-    l : ℕ
-    z : ℤ
-    value : From x y l z
-    long : b .length ≡ lift + l
-    heavy : Diff (b .weight) lift z
-    positive : 0 < b .weight
-
-  above-fits : {t x : ℕ} → x < n → Above (at parent) t x → t < n
-  above-fits b a = fits-up (grown-tree (g .grown)) b a
-
-  weighed : (x y : ℕ) (b : Best) → x < n → y < n → climbs.Value n parent d w x y b → Weighed x y b
-  weighed x y b bx by v = put (route (g .rooted) (grown-tree (g .grown)) bx by (v .meet .left) (v .meet .right) (λ z h k. v .meet .first z (h .below) (h .not) (k .above) (h .above)))
+  carried : (x y : ℕ) (b : Best) → x < y → y < n → climbs.Value n parent d w x y b → Carried From n x y b
+  carried x y b o by v = put (route (g .rooted) T bx by (v .meet .left) (v .meet .right) (λ z h k. v .meet .first z (h .below) (h .not) (k .above) (h .above)))
     where
-      t-small : 2 * at w (v .t) < lift
-      t-small = omega (arith, P .small (v .t) (above-fits bx (v .meet .left)))
+      bx : x < n
+      bx = omega arith
 
-      put : Route (g .rooted) (grown-tree (g .grown)) (v .t) x y → Weighed x y b
-      put m = record {
-        l = Sum (g .long) (m .rows);
-        z = Total (g .heavy) (m .rows);
-        value = route-value (g .rooted) (grown-tree (g .grown)) m;
-        long = omega (arith, v .length, m .sum (g .long) (at d) (λ x b z. up-one x b z .0));
-        heavy = same (omega (arith, v .weight)) (m .total (g .heavy) (at w) w-up);
-        positive = omega (arith, v .weight, t-small);
-      }
+      put : Route (g .rooted) T (v .t) x y → Carried From n x y b
+      put m =
+          let i = steps bx (v .meet .left) in
+          let j = steps by (v .meet .right) in
+          let k = m .sum (λ r. 1) depth deeper in
+          let f = branches bx by m in
+          let c = g .grown .some .1 in
+          record {
+            lower = o;
+            fits = by;
+            l = Sum (g .long) (m .rows);
+            w = Total (g .heavy) (m .rows);
+            value = route-value (g .rooted) T m;
+            length = omega (arith, v .length, m .sum (g .long) (at d) (λ x b z. up-one x b z .0));
+            weight = same (omega (arith, v .weight)) (m .total (g .heavy) (at w) w-up);
+            near-low = omega (arith, v .weight, i .1, j .1, k, f, c);
+            near-high = omega (arith, v .weight, i .0, j .0, k, f, c);
+            low = v .low;
+            high = v .high;
+          }
 
-  module _ (bound : ℕ) (r : Best) (c : Chosen n parent d w (bound + lift) r) where
-    -- any pair within the bound is beaten
-    beaten : (x y l : ℕ) (z : ℤ) → Pair g x y l z → l ≤ bound → (b : Best) × Weighed x y b × Le b r × (b .low ≡ x) × (b .high ≡ y)
-    beaten x y l z p h =
-        let k : Met n parent d w x y (bound + lift) r = c .beats x y (p .lower) (p .fits) in
-        let q = weighed x y (k .best) (omega (arith, p .lower, p .fits)) (p .fits) (k .value) in
-        let e : l ≡ q .l = length-only (g .u) (g .v) (g .rooted .forest) (p .value) (q .value) in
-        (k .best, q, k .beaten (omega (arith, q .long)), k .value .low, k .value .high)
+  pub heaviest : (bound : ℕ) (r : Best) → Chosen n parent d w (bound + lift) r → Heaviest From n bound r
+  heaviest bound r c = record { beats = beats; comes = comes (c .comes) }
+    where
+      beats : (x y : ℕ) → x < y → y < n → (b : Best) × Carried From n x y b × (b .length ≤ bound + lift → Le b r)
+      beats x y o by = let k = c .beats x y o by in (k .best, carried x y (k .best) o by (k .value), k .beaten)
 
-    found : Found n parent d w (bound + lift) r → Heaviest g bound r
-    found f = some (q .l) (q .z) pair (omega (arith, f .short, q .long)) (q .long) (q .heavy) (q .positive) best
-      where
-        q : Weighed (f .x) (f .y) r
-        q = weighed (f .x) (f .y) r (omega (arith, f .order, f .fits)) (f .fits) (f .value)
+      named : {x y : ℕ} → r .low ≡ x → r .high ≡ y → Carried From n x y r → (a b : ℕ) → a ≡ x → b ≡ y → Carried From n a b r
+      named e f h a b i j = rw (i, j) h
 
-        pair : Pair g (r .low) (r .high) (q .l) (q .z)
-        pair = moved (f .value .low) (f .value .high) (record { lower = f .order; fits = f .fits; value = q .value })
-
-        best : (x y l : ℕ) (z : ℤ) → Pair g x y l z → l ≤ bound → AtLeast (r .low) (r .high) (q .l) (q .z) x y l z
-        best x y l z p h = record { weight = order-back b-heavy (q .heavy) (omega (arith, o .weight)); length = length; pair = pair-order }
-          where
-            t : (b : Best) × Weighed x y b × Le b r × (b .low ≡ x) × (b .high ≡ y)
-            t = beaten x y l z p h
-
-            o : Le (t .0) r
-            o = t .2
-
-            el : l ≡ t .1 .l
-            el = length-only (g .u) (g .v) (g .rooted .forest) (p .value) (t .1 .value)
-
-            ez : z ≡ t .1 .z
-            ez = weight-only (g .u) (g .v) (g .rooted .forest) (p .value) (t .1 .value)
-
-            b-heavy : Diff (t .0 .weight) lift z
-            b-heavy = equally ez (t .1 .heavy)
-
-            same-weight : z ≡ q .z → r .weight ≡ t .0 .weight
-            same-weight e = lift-only (q .heavy) (equally (sym e) b-heavy)
-
-            length : z ≡ q .z → q .l ≤ l
-            length e = omega (arith, same-weight e, o .length (omega (arith, same-weight e)), q .long, t .1 .long, el)
-
-            pair-order : z ≡ q .z → l ≡ q .l → (r .low < x) ⊎ ((r .low ≡ x) × (r .high ≤ y))
-            pair-order e u = pick (decLt (r .low) x)
-              where
-                s : r .weight ≡ t .0 .weight
-                s = same-weight e
-
-                m : r .length ≡ t .0 .length
-                m = omega (arith, q .long, t .1 .long, el)
-
-                a : r .low ≤ x
-                a = omega (arith, t .3, o .low (omega (arith, s)) (omega (arith, m)))
-
-                pick : Dec (r .low < x) → (r .low < x) ⊎ ((r .low ≡ x) × (r .high ≤ y))
-                pick (yes i) = inl i
-                pick (no i) = inr (omega (arith, a), omega (arith, t .3, t .4, o .high (omega (arith, s)) (omega (arith, m)) (omega (arith, t .3))))
-
-    pub heaviest : Heaviest g bound r
-    heaviest = pick (c .comes)
-      where
-        pick : (r ≡ best4 0 0 0 0) ⊎ Found n parent d w (bound + lift) r → Heaviest g bound r
-        pick (inr f) = found f
-        pick (inl e) = none zero-weight (λ x y l z p. far x y l z p (decLt bound l))
-          where
-            zero-weight : r .weight ≡ 0
-            zero-weight = ap (λ b. b .weight) e
-
-            far : (x y l : ℕ) (z : ℤ) → Pair g x y l z → Dec (bound < l) → bound < l
-            far x y l z p (yes h) = h
-            far x y l z p (no h) =
-                let t = beaten x y l z p (omega arith) in
-                absurd (omega (arith, zero-weight, t .1 .positive, t .2 .weight))
+      comes : (r ≡ best4 0 0 0 0) ⊎ Found n parent d w (bound + lift) r → (r ≡ best4 0 0 0 0) ⊎ (Carried From n (r .low) (r .high) r × (r .length ≤ bound + lift))
+      comes (inl e) = inl e
+      comes (inr f) = inr (named (f .value .low) (f .value .high) (carried (f .x) (f .y) r (f .order) (f .fits) (f .value)) (r .low) (r .high) (f .value .low) (f .value .high), f .short)

@@ -1,0 +1,50 @@
+-- What `heaviest_pair` promises allows one outcome: where a pair of nodes has one length and one weight, it is carried in one way.
+use Prim.Native.Nat.{ℕ, _+_, _≤_}
+use mathlib.Core.Path.{_≡_, sym, ap, _∙_}
+use mathlib.Core.Logic.{_⊎_, inl, inr}
+use native.Mathlib.Omega.{arith}
+use lib.IntN.{ℤ}
+use Rattle.table.specs.Signed.{Diff}
+use Rattle.table.proofs.Lift.{lift-only}
+use Rattle.lists.specs.Pairs.{best4, Le}
+use Rattle.lists.specs.declared.across.Best.{Best}
+use Rattle.lists.proofs.Order.{le-antisym}
+use Rattle.runs.specs.Lift.{lift}
+use Rattle.places.specs.Heaviest.{Carried, Heaviest}
+
+module _ (Value : ℕ → ℕ → ℕ → ℤ → Type 0) (n : ℕ)
+    (single : (x y l l′ : ℕ) (w w′ : ℤ) → Value x y l w → Value x y l′ w′ → (l ≡ l′) × (w ≡ w′)) where
+  carried-one : {x y : ℕ} {a b : Best} → Carried Value n x y a → Carried Value n x y b → a ≡ b
+  carried-one {x} {y} {a} {b} p q =
+      let e = single x y (p .l) (q .l) (p .w) (q .w) (p .value) (q .value) in
+      let l : a .length ≡ b .length = omega (arith, p .length, q .length, e .0) in
+      let w : a .weight ≡ b .weight = one (e .1) (p .weight) (q .weight) in
+      let c : a .low ≡ b .low = p .low ∙ sym (q .low) in
+      let d : a .high ≡ b .high = p .high ∙ sym (q .high) in
+      λ i. record { weight = w i; length = l i; low = c i; high = d i }
+    where
+      one : {c d : ℕ} {y z : ℤ} → y ≡ z → Diff c lift y → Diff d lift z → c ≡ d
+      one e h k = lift-only (rw e at h) k
+
+  module _ (bound : ℕ) where
+    -- a pair that is found is beaten by any other outcome
+    below : {r x : Best} → Heaviest Value n bound r → Carried Value n (x .low) (x .high) x → x .length ≤ bound + lift → Le x r
+    below {r} {x} h p o =
+        let t = h .beats (x .low) (x .high) (p .lower) (p .fits) in
+        let e : t .0 ≡ x = carried-one (t .1) p in
+        moved e (t .2) o
+      where
+        moved : {a b : Best} → a ≡ b → (a .length ≤ bound + lift → Le a r) → b .length ≤ bound + lift → Le b r
+        moved e f = rw e at f
+
+    not-none : {r x : Best} → Heaviest Value n bound r → r ≡ best4 0 0 0 0 → Carried Value n (x .low) (x .high) x → x .length ≤ bound + lift → ⊥
+    not-none h e p o = omega (arith, below h p o .weight, p .near-low, ap (λ b. b .weight) e)
+
+    pub heaviest-pair-only : (x y : Best) → Heaviest Value n bound x → Heaviest Value n bound y → x ≡ y
+    heaviest-pair-only x y p q = pick (p .comes) (q .comes)
+      where
+        pick : (x ≡ best4 0 0 0 0) ⊎ (Carried Value n (x .low) (x .high) x × (x .length ≤ bound + lift)) → (y ≡ best4 0 0 0 0) ⊎ (Carried Value n (y .low) (y .high) y × (y .length ≤ bound + lift)) → x ≡ y
+        pick (inl e) (inl f) = e ∙ sym f
+        pick (inl e) (inr k) = absurd (not-none p e (k .0) (k .1))
+        pick (inr k) (inl f) = absurd (not-none q f (k .0) (k .1))
+        pick (inr k) (inr j) = le-antisym x y (below q (k .0) (k .1)) (below p (j .0) (j .1))
