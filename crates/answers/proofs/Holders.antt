@@ -24,7 +24,7 @@ module _ (s marks marks′ : List ℕ) (h : Alike marks marks′) (n : ℕ) wher
   qualifies-alike : {Within : ℕ → Type 0} {floor : ℤ} (e : Entry) → Qualifies (PathOf s marks n) Within floor n e → Qualifies (PathOf s marks′ n) Within floor n e
   qualifies-alike e q = record { pair = q .pair; node = q .node; path = path-alike (q .path); short = q .short; heavy = q .heavy }
 
-flip : (marks marks′ : List ℕ) → Alike marks marks′ → Alike marks′ marks
+pub flip : (marks marks′ : List ℕ) → Alike marks marks′ → Alike marks′ marks
 flip marks marks′ h r = (h r .1, h r .0)
 
 lists-alike : (s marks marks′ : List ℕ) → Alike marks marks′ → (Within : ℕ → Type 0) (floor : ℤ) (n low high : ℕ) (old : List ℕ) {x : Outcome}

@@ -1,6 +1,9 @@
 -- Laws and theorems of the operations, by topic. Demand 3 of the listing stands in Demand3.
 pub mod Demand3
 pub mod ListingOnly
+pub mod HeaviestOnly
+pub mod HeaviestRun
 pub mod Holders
+pub mod HeaviestHolders
 pub mod Branching
 pub mod Scanning

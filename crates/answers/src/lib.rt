@@ -1,7 +1,10 @@
 // The operations that answer over a table and its marks.
+mod best;
 mod ground;
 mod scan;
 
+pub use best::Run;
+pub use best::heaviest;
 ghost use Prim.Native.Nat.{_≤_};
 ghost use Rattle.tree.specs.Net.{Net};
 ghost use Rattle.answers.specs.Listing.{outcome, Goes, ListingOf};

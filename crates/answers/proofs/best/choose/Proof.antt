@@ -1,0 +1,70 @@
+-- `answers::choose` meets its contract: 13 by the number of marks; 16 where the best pair's weight is 0, for then no pair is within the bound; else the best pair's fields, lowered.
+use native.Mathlib.Omega.{arith}
+use borrow.Author.Needs.{needs}
+use mir.Syntax.{w64}
+use mir.ValLaws.{toZ-ofZ}
+use Rattle.table.specs.Refuse.{refused, passed}
+use Rattle.answers.proofs.HeaviestRun.{none-within, nodes-fit, length-fits, weight-fits, run-given}
+use Rattle.answers.proofs.best.choose.Statement.{statement}
+use Rattle.answers.proofs.best.choose.Tie as tie
+
+wide-requires : tie.Need-wide-requires
+wide-requires c κs = search needs
+
+sub-if1 : tie.Need-sub-if1
+sub-if1 c = search needs
+
+returns : tie.Need-returns
+returns c = refused (λ h. c .if1 .taken (omega (arith, c .before .wide .ensures)))
+
+search-requires : tie.Need-search-requires
+search-requires c κs = search needs
+
+returns-2 : tie.Need-returns-2
+returns-2 c = passed (omega (arith, c .before .before .before .before .wide .ensures)) (refused (none-within _ (c .before .before .before .before .before .before .before .args .marks .now) (c .before .before .before .before .before .before .before .pre) (c .before .before .search .ensures) (c .if2 .taken)))
+
+cast-t12 : tie.Need-cast-t12
+cast-t12 c = omega (arith, nodes-fit _ (c .before .before .before .before .before .before .before .before .args .marks .now) (c .before .before .before .before .before .before .before .before .pre) (c .before .before .before .search .ensures) (c .before .before .before .before .before .before .before .before .pre .few) (c .before .if2 .left) .0)
+
+cast-t13 : tie.Need-cast-t13
+cast-t13 c = omega (arith, nodes-fit _ (c .before .before .before .before .before .before .before .before .before .args .marks .now) (c .before .before .before .before .before .before .before .before .before .pre) (c .before .before .before .before .search .ensures) (c .before .before .before .before .before .before .before .before .before .pre .few) (c .before .before .if2 .left) .1)
+
+sub-t14 : tie.Need-sub-t14
+sub-t14 c = omega (arith, length-fits _ (c .before .before .before .before .before .before .before .before .before .before .args .marks .now) (c .before .before .before .before .before .before .before .before .before .before .pre) (c .before .before .before .before .before .search .ensures) (c .before .before .before .if2 .left) .0)
+
+cast-t15 : tie.Need-cast-t15
+cast-t15 c = omega (arith, length-fits _ (c .before .before .before .before .before .before .before .before .before .before .args .marks .now) (c .before .before .before .before .before .before .before .before .before .before .pre) (c .before .before .before .before .before .search .ensures) (c .before .before .before .if2 .left))
+
+add-lowered : tie.Need-add-lowered
+add-lowered c = omega (arith, weight-fits _ (c .before .before .before .before .before .before .before .before .before .before .before .args .marks .now) (c .before .before .before .before .before .before .before .before .before .before .before .pre) (c .before .before .before .before .before .before .search .ensures) (c .before .before .before .before .if2 .left))
+
+sub-lowered : tie.Need-sub-lowered
+sub-lowered c = omega (arith, weight-fits _ (c .before .before .before .before .before .before .before .before .before .before .before .args .marks .now) (c .before .before .before .before .before .before .before .before .before .before .before .pre) (c .before .before .before .before .before .before .search .ensures) (c .before .before .before .before .if2 .left))
+
+lowered-requires : tie.Need-lowered-requires
+lowered-requires c κs = search needs
+
+returns-3 : tie.Need-returns-3
+returns-3 c =
+    let m = c .before .before .before .before .before .if2 .left in
+    let r = run-given _ (c .before .before .before .before .before .before .before .before .before .before .before .before .args .marks .now) (c .before .before .before .before .before .before .before .before .before .before .before .before .pre) (c .before .before .before .before .before .before .before .search .ensures) m _ (c .lowered .ensures) in
+    let e = toZ-ofZ w64 (c .lowered .result) (record { sfits = c .lowered .ok }) in
+    rw e (passed (omega (arith, c .before .before .before .before .before .before .before .before .before .wide .ensures)) (passed (r .run, r .heaviest .one) r))
+
+pub choose-spec : {M : Type 1} → statement M
+choose-spec =
+    tie.close
+    (tie.spec
+    wide-requires
+    sub-if1
+    returns
+    search-requires
+    returns-2
+    cast-t12
+    cast-t13
+    sub-t14
+    cast-t15
+    add-lowered
+    sub-lowered
+    lowered-requires
+    returns-3)
