@@ -7,3 +7,6 @@ pub mod Holders
 pub mod HeaviestHolders
 pub mod Branching
 pub mod Scanning
+pub mod PairShown
+pub mod PairOnly
+pub mod PairHolders

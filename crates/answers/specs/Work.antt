@@ -28,3 +28,8 @@ pub record Branches (s marks : List ℕ) (half : List ℕ) (i : ℕ) (bl bw : Li
   pub light : (x : ℕ) → x < i → x ≢ 0 → at bw x ≤ 2000000
   pub bl-long : length bl ≡ 4096
   pub bw-long : length bw ≡ 4096
+
+-- the path from x to y has length l and lifted weight q
+pub record WayOf {n : ℕ} {parent order place bl bw : List ℕ} (g : Ground n parent order place bl bw) (x y l q : ℕ) : Type 0 where
+  pub value : (w : ℤ) → Diff q 8589934592 w → ValueIn g x y l w
+  pub small : q < 17179869184

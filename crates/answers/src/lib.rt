@@ -1,10 +1,13 @@
 // The operations that answer over a table and its marks.
 mod best;
+mod between;
 mod ground;
 mod scan;
 
 pub use best::Run;
 pub use best::heaviest;
+pub use between::PairAnswer;
+pub use between::pair;
 ghost use Prim.Native.Nat.{_≤_};
 ghost use Rattle.tree.specs.Net.{Net};
 ghost use Rattle.answers.specs.Listing.{outcome, Goes, ListingOf};

@@ -27,3 +27,4 @@ pub mod Climbs
 pub mod Route
 pub mod Far
 pub mod Meeting
+pub mod Short

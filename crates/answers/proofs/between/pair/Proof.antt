@@ -1,0 +1,29 @@
+-- `pair` meets its contract: a refusal of 1 to 12 is handed on, and an accepted net goes on to 13, 15 and the path.
+use Rattle.tree.proofs.Begins.{admitted, refused-on, passed-on}
+use Rattle.answers.specs.Pair.{refusal}
+use borrow.Author.Needs.{needs}
+use Rattle.answers.proofs.between.pair.Statement.{statement}
+use Rattle.answers.proofs.between.pair.Tie as tie
+
+accept-requires : tie.Need-accept-requires
+accept-requires c κs = search needs
+
+enum-known-o : tie.Need-enum-known-o
+enum-known-o c = search needs
+
+enum-known-o-2 : tie.Need-enum-known-o-2
+enum-known-o-2 c = search needs
+
+measure-requires : tie.Need-measure-requires
+measure-requires c κs = admitted (c .before .before .before .before .before .before .args .s .now) _ _ (rw (c .before .o2 .given .1) at (c .before .before .before .accept .ensures)) .net
+
+returns : tie.Need-returns
+returns c = refused-on refusal (c .before .before .before .before .before .before .args .s .now) _ (rw (c .before .o .given .1) at (c .before .before .before .accept .ensures))
+
+returns-2 : tie.Need-returns-2
+returns-2 c = let p = rw (c .before .before .o2 .given .1) at (c .before .before .before .before .accept .ensures) in passed-on refusal (c .before .before .before .before .before .before .before .args .s .now) _ _ p (rw (admitted (c .before .before .before .before .before .before .before .args .s .now) _ _ p .nodes) at (c .measure .ensures))
+
+pub pair-spec : {M : Type 1} → statement M
+pair-spec =
+    tie.close
+    (tie.spec accept-requires enum-known-o enum-known-o-2 measure-requires returns returns-2)

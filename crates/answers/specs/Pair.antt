@@ -1,0 +1,54 @@
+-- The operation pair: refusals 1 to 12, then 13 and 15; then length, weight and hops of the path from one node to the other, in either order. A path longer than B is shown.
+use Prim.Native.Nat.{ℕ, _-_, _<_}
+use mathlib.Core.Path.{_≡_}
+use mathlib.Core.Logic.{_≢_}
+use mathlib.Core.List.{List}
+use lib.IntN.{ℤ, pos}
+use lib.ListN.{length}
+use Rattle.table.specs.Refuse.{Unless}
+use Rattle.table.specs.Header.{nodesOf}
+use Rattle.tree.specs.Net.{firstEnd, secondEnd}
+use Rattle.tree.specs.Accept.{Begins}
+use Rattle.spines.specs.Hops.{Hops}
+use Rattle.answers.specs.PathOf.{PathOf}
+use Rattle.answers.specs.declared.between.PairAnswer.{PairAnswer}
+use Rattle.answers.specs.declared.between.PairAnswer.the-variants.{Found, Refused}
+
+-- number and row, length, weight and hops
+pub record Outcome : Type 0 where
+  pub number : ℕ
+  pub row : ℕ
+  pub length : ℕ
+  pub weight : ℤ
+  pub hops : ℕ
+
+-- a refusal has zeros elsewhere
+abbrev pub refusal : ℕ → ℕ → Outcome
+refusal k r = record { number = k; row = r; length = 0; weight = pos 0; hops = 0 }
+
+abbrev pub outcome : PairAnswer → Outcome
+outcome (Found l w h) = record { number = 0; row = 0; length = l; weight = w; hops = h }
+outcome (Refused why) = refusal (why .number) (why .row)
+
+-- two different nodes
+pub record TwoNodes (n a b : ℕ) : Type 0 where
+  pub first : a < n
+  pub second : b < n
+  pub apart : a ≢ b
+
+-- the path from a to b: its length, its weight under the marks, and how many different spines it touches
+pub record Shows (s marks : List ℕ) (n a b : ℕ) (x : Outcome) : Type 0 where
+  pub number : x .number ≡ 0
+  pub row : x .row ≡ 0
+  pub path : PathOf s marks n a b (x .length) (x .weight)
+  pub hops : Hops (firstEnd s) (secondEnd s) (n - 1) n a b (x .hops)
+
+-- 13 and 15, and then the path
+abbrev pub Measures : List ℕ → List ℕ → ℕ → ℕ → ℕ → Outcome → Type 0
+Measures s marks n a b =
+    Unless Outcome (refusal 13 0) (length marks ≡ n - 1)
+    (Unless Outcome (refusal 15 0) (TwoNodes n a b)
+    (Shows s marks n a b))
+
+abbrev pub PairOf : List ℕ → List ℕ → ℕ → ℕ → Outcome → Type 0
+PairOf s marks a b = Begins Outcome refusal s (Measures s marks (nodesOf s) a b)
