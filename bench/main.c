@@ -1,0 +1,166 @@
+/* Measures the library beside the plain scan: one run, the same tables, marks and buffers, lent to both. Writes the figures to standard output and the
+   plot of heaviest to the file that the first argument names. Ends with status 1 where the two give different answers. */
+#include "hourbench.h"
+#include "nets.h"
+#include "scan.h"
+#include <math.h>
+#include <stdio.h>
+#include <stdlib.h>
+#include <string.h>
+#include <time.h>
+
+enum { SIZES = 3, OPS = 4, PAGE = 65536 };
+static const size_t sizes[SIZES] = {256, 1024, 4096};
+static const char *op_names[OPS] = {"heaviest", "listing", "pair", "claim+abort"};
+
+static uint8_t table[12 * 4096], page_scan[PAGE], page_library[PAGE];
+static uint16_t marks_scan[4096], marks_library[4096];
+static size_t n, table_len;
+static double took[SHAPES][SIZES][OPS][2]; /* seconds a call: scan, library */
+static int64_t best[8];
+static int differ;
+
+static uint64_t seed;
+
+/* One call (claim and abort: two) by the scan or the library. */
+static void call(int op, int library, uint16_t a, uint16_t b, int64_t answer[8]) {
+    uint16_t *marks = library ? marks_library : marks_scan;
+    uint8_t *page = library ? page_library : page_scan;
+    size_t m = n - 1;
+    switch (op) {
+    case 0: (library ? hb_heaviest : scan_heaviest)(table, table_len, marks, m, answer); break;
+    case 1: (library ? hb_listing : scan_listing)(table, table_len, marks, m, best[6] - 50, 0, 0, page, PAGE, answer); break;
+    case 2:
+        (library ? hb_pair : scan_pair)(table, table_len, marks, m, a, b, answer);
+        answer[5] = 0; /* hops, which a scan does not have */
+        break;
+    default:
+        (library ? hb_claim : scan_claim)(table, table_len, marks, m, 7, (uint16_t)best[3], (uint16_t)best[4], answer);
+        (library ? hb_abort : scan_abort)(table, table_len, marks, m, 7, answer);
+    }
+}
+
+static double now(void) {
+    struct timespec t;
+    clock_gettime(CLOCK_MONOTONIC, &t);
+    return (double)t.tv_sec + 1e-9 * (double)t.tv_nsec;
+}
+
+/* The least time of a call, over calls for a fifth of a second or three calls, whichever is more. */
+static double measure(int op, int library, int64_t answer[8]) {
+    double least = 1e9, begun = now();
+    seed = 77;
+    for (int i = 0; i < 3 || now() - begun < 0.2; i++) {
+        uint16_t a = (uint16_t)(next_number(&seed) % n), b = (uint16_t)((a + 1 + next_number(&seed) % (n - 1)) % n);
+        double from = now();
+        call(op, library, a, b, answer);
+        double t = now() - from;
+        if (t < least) least = t;
+    }
+    return least;
+}
+
+/* Equal answers, page and marks; for pair on fifty pairs. */
+static void compare(int op, const char *shape) {
+    seed = 78;
+    for (int i = 0; i < (op == 2 ? 50 : 1); i++) {
+        uint16_t a = (uint16_t)(next_number(&seed) % n), b = (uint16_t)((a + 1 + next_number(&seed) % (n - 1)) % n);
+        int64_t x[8], y[8];
+        call(op, 0, a, b, x);
+        call(op, 1, a, b, y);
+        if (memcmp(x, y, sizeof x) || memcmp(page_scan, page_library, PAGE) || memcmp(marks_scan, marks_library, sizeof marks_scan)) {
+            printf("DIFFERENT: %s of %s with %zu nodes\n", op_names[op], shape, n);
+            differ = 1;
+        }
+    }
+}
+
+#define X(i) (90 + 250 * (double)(i))
+static double low_y, high_y;
+static double y_of(double seconds) { return 420 - 370 * (log10(seconds) - low_y) / (high_y - low_y); }
+
+static void plot(const char *path) {
+    FILE *f = fopen(path, "w");
+    if (!f) {
+        perror(path);
+        exit(2);
+    }
+    static const char *colour[2] = {"#b4502d", "#1f6f8b"}, *who[2] = {"plain scan in C", "library"};
+    double least = 1e9, most = 0;
+    for (int s = 0; s < SHAPES; s++)
+        for (int z = 0; z < SIZES; z++)
+            for (int w = 0; w < 2; w++) {
+                double t = took[s][z][0][w];
+                if (t < least) least = t;
+                if (t > most) most = t;
+            }
+    low_y = floor(log10(least)), high_y = ceil(log10(most));
+    fprintf(f, "<svg xmlns=\"http://www.w3.org/2000/svg\" viewBox=\"0 0 760 480\" font-family=\"sans-serif\" font-size=\"13\">\n");
+    fprintf(f, "<rect width=\"760\" height=\"480\" fill=\"white\"/>\n<text x=\"90\" y=\"28\" font-size=\"16\">Heaviest: time of a call against nodes</text>\n");
+    for (int d = (int)low_y; d <= (int)high_y; d++) {
+        double y = y_of(pow(10, d)), ms = pow(10, d + 3);
+        fprintf(f, "<line x1=\"90\" x2=\"590\" y1=\"%.1f\" y2=\"%.1f\" stroke=\"#ddd\"/><text x=\"82\" y=\"%.1f\" text-anchor=\"end\">%g ms</text>\n", y, y, y + 4, ms);
+    }
+    for (int z = 0; z < SIZES; z++)
+        fprintf(f, "<line x1=\"%.0f\" x2=\"%.0f\" y1=\"50\" y2=\"420\" stroke=\"#ddd\"/><text x=\"%.0f\" y=\"440\" text-anchor=\"middle\">%zu nodes</text>\n", X(z), X(z), X(z), sizes[z]);
+    for (int w = 0; w < 2; w++) {
+        int order[SHAPES] = {0, 1, 2, 3, 4};
+        for (int i = 0; i < SHAPES; i++)
+            for (int j = i + 1; j < SHAPES; j++)
+                if (took[order[j]][2][0][w] > took[order[i]][2][0][w]) {
+                    int o = order[i];
+                    order[i] = order[j], order[j] = o;
+                }
+        double at = 0;
+        for (int i = 0; i < SHAPES; i++) {
+            int s = order[i];
+            fprintf(f, "<polyline fill=\"none\" stroke=\"%s\" stroke-width=\"1.8\" points=\"", colour[w]);
+            for (int z = 0; z < SIZES; z++) fprintf(f, "%.1f,%.1f ", X(z), y_of(took[s][z][0][w]));
+            fprintf(f, "\"/>\n");
+            for (int z = 0; z < SIZES; z++)
+                fprintf(f, "<circle cx=\"%.1f\" cy=\"%.1f\" r=\"3\" fill=\"%s\"/>\n", X(z), y_of(took[s][z][0][w]), colour[w]);
+            double y = y_of(took[s][2][0][w]) + 4;
+            if (i > 0 && y < at + 15) y = at + 15;
+            at = y;
+            if (i == 0) fprintf(f, "<text x=\"602\" y=\"%.1f\" fill=\"%s\" font-weight=\"bold\">%s</text>\n", y - 18, colour[w], who[w]);
+            fprintf(f, "<text x=\"602\" y=\"%.1f\" fill=\"%s\">%s</text>\n", y, colour[w], shape_names[s]);
+        }
+    }
+    fprintf(f, "<text x=\"90\" y=\"466\" fill=\"#555\">Both axes logarithmic. Drawn by tools/bench.</text>\n</svg>\n");
+    fclose(f);
+}
+
+int main(int argc, char **argv) {
+    if (argc != 2) {
+        fprintf(stderr, "usage: bench PLOT.svg\n");
+        return 2;
+    }
+    for (int s = 0; s < SHAPES; s++)
+        for (int z = 0; z < SIZES; z++) {
+            n = sizes[z];
+            table_len = make_net(s, n, table);
+            memset(marks_scan, 0, sizeof marks_scan), memset(marks_library, 0, sizeof marks_library);
+            memset(page_scan, 0, PAGE), memset(page_library, 0, PAGE);
+            scan_heaviest(table, table_len, marks_scan, n - 1, best);
+            for (int op = 0; op < OPS; op++) {
+                int64_t answer[8];
+                compare(op, shape_names[s]);
+                for (int w = 0; w < 2; w++) took[s][z][op][w] = measure(op, w, answer);
+            }
+        }
+    for (int op = 0; op < OPS; op++) {
+        printf("%s%s: milliseconds of a call, plain scan / library (times faster)\n\n", op ? "\n" : "", op_names[op]);
+        printf("| shape | 256 nodes | 1,024 nodes | 4,096 nodes | scan grows | library grows |\n|---|---|---|---|---|---|\n");
+        for (int s = 0; s < SHAPES; s++) {
+            printf("| %s |", shape_names[s]);
+            for (int z = 0; z < SIZES; z++) {
+                double *t = took[s][z][op];
+                printf(" %.3g / %.3g (%.3g) |", 1e3 * t[0], 1e3 * t[1], t[0] / t[1]);
+            }
+            printf(" %.1f-fold | %.1f-fold |\n", took[s][2][op][0] / took[s][1][op][0], took[s][2][op][1] / took[s][1][op][1]);
+        }
+    }
+    printf("\nGrowth is from 1,024 to 4,096 nodes. %s\n", differ ? "ANSWERS DIFFER" : "All answers were equal.");
+    plot(argv[1]);
+    return differ;
+}

@@ -1,0 +1,56 @@
+/* The nets that are measured (nets.h). */
+#include "nets.h"
+#include <string.h>
+
+const char *const shape_names[SHAPES] = {"chain", "star", "caterpillar", "balanced", "random"};
+
+uint64_t next_number(uint64_t *seed) { /* splitmix64 */
+    uint64_t z = *seed += 0x9E3779B97F4A7C15u;
+    z = (z ^ z >> 30) * 0xBF58476D1CE4E5B9u;
+    z = (z ^ z >> 27) * 0x94D049BB133111EBu;
+    return z ^ z >> 31;
+}
+
+static size_t parent(int shape, size_t n, size_t i, uint64_t *seed) {
+    switch (shape) {
+    case 0: return i - 1;
+    case 1: return 0;
+    case 2: return i < n / 2 ? i - 1 : i - n / 2;
+    case 3: return (i - 1) / 2;
+    default: return next_number(seed) % i;
+    }
+}
+
+static void put(uint8_t *to, uint64_t x, size_t bytes) {
+    for (size_t i = 0; i < bytes; i++) to[i] = (uint8_t)(x >> 8 * i);
+}
+
+static void shuffle(uint16_t *list, size_t many, uint64_t *seed) {
+    for (size_t i = 0; i < many; i++) list[i] = (uint16_t)i;
+    for (size_t i = many; i > 1; i--) {
+        size_t j = next_number(seed) % i;
+        uint16_t x = list[i - 1];
+        list[i - 1] = list[j], list[j] = x;
+    }
+}
+
+size_t make_net(int shape, size_t n, uint8_t table[12 * 4096]) {
+    uint16_t name[4096], rows[4096];
+    uint32_t far[4096] = {0}, most = 0;
+    uint64_t seed = 8 * n + (uint64_t)shape;
+    shuffle(name, n, &seed);
+    shuffle(rows, n - 1, &seed);
+    memcpy(table, "RTN\1\0", 5);
+    put(table + 5, n, 3);
+    for (size_t i = 1; i < n; i++) {
+        size_t up = parent(shape, n, i, &seed);
+        uint32_t length = 1 + (uint32_t)(next_number(&seed) % 100);
+        uint8_t *row = table + 12 + 12 * (size_t)rows[i - 1];
+        put(row, name[up], 2), put(row + 2, name[i], 2), put(row + 4, length, 4);
+        put(row + 8, (uint64_t)((int64_t)(next_number(&seed) % 201) - 100), 4);
+        far[i] = far[up] + length;
+        if (far[i] > most) most = far[i];
+    }
+    put(table + 8, shape == 1 ? most : most / 2, 4);
+    return 12 * n;
+}

@@ -1,0 +1,202 @@
+/* The plain scan (scan.h). Refusals, rows, neighbours, then a walk from a node that gives every length and weight: for one node, or for each in turn.
+   Its hops are left 0: a scan has no spines. */
+#include "scan.h"
+#include <string.h>
+
+enum { MOST = 4096 };
+
+typedef struct {
+    size_t n;
+    int64_t bound;
+    uint16_t a[MOST], b[MOST];       /* each row's ends */
+    int32_t length[MOST], weight[MOST]; /* a marked row weighs 0 */
+    uint32_t first[MOST + 1];        /* the halves of node x stand from first[x] to first[x + 1] */
+    uint16_t to[2 * MOST], row[2 * MOST];
+} net;
+
+typedef struct {
+    int64_t length[MOST], weight[MOST];
+    uint16_t last[MOST], from[MOST]; /* the row and the node by which each node was reached */
+} paths;
+
+static uint32_t u16(const uint8_t *s) { return s[0] | (uint32_t)s[1] << 8; }
+static uint32_t u32(const uint8_t *s) { return u16(s) | u16(s + 2) << 16; }
+
+static uint8_t refuse(int64_t answer[8], uint8_t number, size_t row) {
+    memset(answer, 0, 8 * sizeof *answer);
+    answer[0] = number;
+    answer[1] = (int64_t)row;
+    return number;
+}
+
+static uint16_t top(uint16_t *up, uint16_t x) {
+    while (up[x] != x) x = up[x] = up[up[x]];
+    return x;
+}
+
+/* 1 to 12. */
+static uint8_t open_net(const uint8_t *s, size_t len, net *t, int64_t answer[8]) {
+    if (len < 12) return refuse(answer, 1, 0);
+    if (memcmp(s, "RTN", 3) != 0) return refuse(answer, 2, 0);
+    if (u16(s + 3) != 1) return refuse(answer, 3, 0);
+    size_t n = u16(s + 5);
+    if (n == 0 || n > MOST) return refuse(answer, 4, 0);
+    if (s[7] != 0) return refuse(answer, 5, 0);
+    if (len != 12 * n) return refuse(answer, 6, 0);
+    t->n = n;
+    t->bound = u32(s + 8);
+    for (size_t r = 0; r + 1 < n; r++) {
+        const uint8_t *p = s + 12 + 12 * r;
+        uint32_t a = u16(p), b = u16(p + 2), length = u32(p + 4);
+        int32_t weight = (int32_t)u32(p + 8);
+        if (a >= n || b >= n) return refuse(answer, 7, r);
+        if (a == b) return refuse(answer, 8, r);
+        if (length > 1000000) return refuse(answer, 9, r);
+        if (weight < -1000000 || weight > 1000000) return refuse(answer, 10, r);
+        t->a[r] = (uint16_t)a, t->b[r] = (uint16_t)b, t->length[r] = (int32_t)length, t->weight[r] = weight;
+    }
+    uint16_t up[MOST];
+    for (size_t x = 0; x < n; x++) up[x] = (uint16_t)x;
+    for (size_t r = 0; r + 1 < n; r++) {
+        uint16_t x = top(up, t->a[r]), y = top(up, t->b[r]);
+        if (x == y) return refuse(answer, 11, r);
+        up[x] = y;
+    }
+    for (size_t x = 1; x < n; x++)
+        if (top(up, (uint16_t)x) != top(up, 0)) return refuse(answer, 12, 0);
+    memset(t->first, 0, sizeof t->first);
+    for (size_t r = 0; r + 1 < n; r++) t->first[t->a[r] + 1]++, t->first[t->b[r] + 1]++;
+    for (size_t x = 0; x < n; x++) t->first[x + 1] += t->first[x];
+    uint32_t next[MOST];
+    memcpy(next, t->first, n * sizeof *next);
+    for (size_t r = 0; r + 1 < n; r++) {
+        uint32_t h = next[t->a[r]]++, k = next[t->b[r]]++;
+        t->to[h] = t->b[r], t->row[h] = (uint16_t)r;
+        t->to[k] = t->a[r], t->row[k] = (uint16_t)r;
+    }
+    return 0;
+}
+
+/* 1 to 13. */
+static uint8_t begin(const uint8_t *s, size_t len, const uint16_t *marks, size_t marks_len, net *t, int64_t answer[8]) {
+    uint8_t number = open_net(s, len, t, answer);
+    if (number) return number;
+    if (marks_len != t->n - 1) return refuse(answer, 13, 0);
+    for (size_t r = 0; r + 1 < t->n; r++)
+        if (marks[r]) t->weight[r] = 0;
+    return 0;
+}
+
+static void walk(const net *t, uint16_t from, paths *p) {
+    uint16_t stack[MOST];
+    size_t top = 0;
+    stack[top++] = from;
+    p->length[from] = p->weight[from] = 0;
+    p->last[from] = p->from[from] = 65535;
+    while (top) {
+        uint16_t x = stack[--top], back = p->last[x];
+        int64_t length = p->length[x], weight = p->weight[x];
+        for (uint32_t h = t->first[x]; h < t->first[x + 1]; h++) {
+            uint16_t r = t->row[h], y = t->to[h];
+            if (r == back) continue;
+            p->length[y] = length + t->length[r];
+            p->weight[y] = weight + t->weight[r];
+            p->last[y] = r, p->from[y] = x;
+            stack[top++] = y;
+        }
+    }
+}
+
+uint8_t scan_pair(const uint8_t *table, size_t table_len, const uint16_t *marks, size_t marks_len, uint16_t a, uint16_t b, int64_t answer[8]) {
+    net t;
+    paths p;
+    uint8_t number = begin(table, table_len, marks, marks_len, &t, answer);
+    if (number) return number;
+    if (a >= t.n || b >= t.n || a == b) return refuse(answer, 15, 0);
+    walk(&t, a, &p);
+    refuse(answer, 0, 0);
+    answer[3] = p.length[b], answer[4] = p.weight[b];
+    return 0;
+}
+
+uint8_t scan_heaviest(const uint8_t *table, size_t table_len, const uint16_t *marks, size_t marks_len, int64_t answer[8]) {
+    net t;
+    paths p;
+    uint8_t number = begin(table, table_len, marks, marks_len, &t, answer);
+    if (number) return number;
+    size_t low = 0, high = 0;
+    int64_t length = 0, weight = INT64_MIN;
+    for (size_t a = 0; a < t.n; a++) {
+        walk(&t, (uint16_t)a, &p);
+        for (size_t b = a + 1; b < t.n; b++) {
+            if (p.length[b] > t.bound || p.weight[b] < weight) continue;
+            if (p.weight[b] > weight || p.length[b] < length) low = a, high = b, length = p.length[b], weight = p.weight[b];
+        }
+    }
+    if (weight == INT64_MIN) return refuse(answer, 16, 0);
+    refuse(answer, 0, 0);
+    answer[3] = (int64_t)low, answer[4] = (int64_t)high, answer[5] = length, answer[6] = weight;
+    return 0;
+}
+
+static void put(uint8_t *to, uint64_t x, size_t bytes) {
+    for (size_t i = 0; i < bytes; i++) to[i] = (uint8_t)(x >> 8 * i);
+}
+
+uint8_t scan_listing(const uint8_t *table, size_t table_len, const uint16_t *marks, size_t marks_len, int64_t floor, uint16_t from_low,
+                     uint16_t from_high, uint8_t *rows, size_t rows_len, int64_t answer[8]) {
+    net t;
+    paths p;
+    uint8_t number = begin(table, table_len, marks, marks_len, &t, answer);
+    if (number) return number;
+    if (rows_len < 16) return refuse(answer, 17, 0);
+    size_t room = rows_len / 16, written = 0, left = 0;
+    for (size_t a = from_low; a < t.n; a++) {
+        walk(&t, (uint16_t)a, &p);
+        for (size_t b = a + 1; b < t.n; b++) {
+            if (p.length[b] > t.bound || p.weight[b] < floor) continue;
+            if (a == from_low && b <= from_high) continue;
+            if (written == room) {
+                left++;
+                continue;
+            }
+            uint8_t *row = rows + 16 * written++;
+            put(row, a, 2), put(row + 2, b, 2), put(row + 4, (uint64_t)p.length[b], 4), put(row + 8, (uint64_t)p.weight[b], 8);
+        }
+    }
+    refuse(answer, 0, 0);
+    answer[3] = (int64_t)written, answer[4] = (int64_t)left;
+    return 0;
+}
+
+uint8_t scan_claim(const uint8_t *table, size_t table_len, uint16_t *marks, size_t marks_len, uint16_t run, uint16_t a, uint16_t b,
+                   int64_t answer[8]) {
+    net t;
+    paths p;
+    uint8_t number = begin(table, table_len, marks, marks_len, &t, answer);
+    if (number) return number;
+    if (run == 0 || run == 65535) return refuse(answer, 14, 0);
+    if (a >= t.n || b >= t.n || a == b) return refuse(answer, 15, 0);
+    walk(&t, a, &p);
+    if (p.length[b] > t.bound) return refuse(answer, 18, 0);
+    int64_t taken = 0;
+    for (uint16_t x = b; x != a; x = p.from[x])
+        if (marks[p.last[x]] == 0) marks[p.last[x]] = run, taken++;
+    if (taken == 0) return refuse(answer, 19, 0);
+    refuse(answer, 0, 0);
+    answer[3] = taken;
+    return 0;
+}
+
+uint8_t scan_abort(const uint8_t *table, size_t table_len, uint16_t *marks, size_t marks_len, uint16_t run, int64_t answer[8]) {
+    net t;
+    uint8_t number = begin(table, table_len, marks, marks_len, &t, answer);
+    if (number) return number;
+    if (run == 0 || run == 65535) return refuse(answer, 14, 0);
+    int64_t freed = 0;
+    for (size_t r = 0; r < marks_len; r++)
+        if (marks[r] == run) marks[r] = 0, freed++;
+    refuse(answer, 0, 0);
+    answer[3] = freed;
+    return 0;
+}

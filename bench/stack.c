@@ -1,0 +1,53 @@
+/* How much stack each operation takes: on a thread whose stack was painted, over the five nets of 4,096 nodes; the most is told. */
+#include "hourbench.h"
+#include "nets.h"
+#include <pthread.h>
+#include <stdio.h>
+#include <stdlib.h>
+#include <string.h>
+
+enum { STACK = 16 << 20, NODES = 4096, OPS = 9, PAINT = 0xA5 };
+static const char *names[OPS] = {"(the thread itself)", "hb_accept", "hb_pair", "hb_heaviest", "hb_heads", "hb_listing", "hb_claim", "hb_commit", "hb_abort"};
+static uint8_t table[12 * NODES], page[65536];
+static uint16_t marks[NODES], heads[NODES];
+static size_t size;
+
+static void *call(void *which) {
+    int64_t answer[8];
+    size_t m = NODES - 1;
+    switch (*(int *)which) {
+    case 1: hb_accept(table, size, answer); break;
+    case 2: hb_pair(table, size, marks, m, 1, 2, answer); break;
+    case 3: hb_heaviest(table, size, marks, m, answer); break;
+    case 4: hb_heads(table, size, heads, NODES, answer); break;
+    case 5: hb_listing(table, size, marks, m, 0, 0, 0, page, sizeof page, answer); break;
+    case 6: hb_claim(table, size, marks, m, 7, 1, 2, answer); break;
+    case 7: hb_commit(table, size, marks, m, 7, answer); break;
+    case 8: hb_abort(table, size, marks, m, 7, answer); break;
+    }
+    return NULL;
+}
+
+int main(void) {
+    size_t most[OPS] = {0};
+    uint8_t *stack = aligned_alloc(4096, STACK);
+    for (int shape = 0; shape < SHAPES; shape++) {
+        size = make_net(shape, NODES, table);
+        for (int op = 0; op < OPS; op++) {
+            pthread_attr_t how;
+            pthread_t thread;
+            memset(stack, PAINT, STACK);
+            memset(marks, 0, sizeof marks);
+            pthread_attr_init(&how);
+            pthread_attr_setstack(&how, stack, STACK);
+            if (pthread_create(&thread, &how, call, &op)) return 2;
+            pthread_join(thread, NULL);
+            size_t low = 0;
+            while (low < STACK && stack[low] == PAINT) low++;
+            if (STACK - low > most[op]) most[op] = STACK - low;
+        }
+    }
+    printf("| operation | stack, KiB |\n|---|---|\n");
+    for (int op = 1; op < OPS; op++) printf("| `%s` | %zu |\n", names[op], (most[op] - most[0] + 1023) / 1024);
+    return 0;
+}

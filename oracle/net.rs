@@ -1,0 +1,295 @@
+//! A net and what every operation says of it, straight from document 01: plain scans, nothing clever.
+
+/// A refusal: its number and the row it names (0 where it names none).
+pub type Refused = (u8, usize);
+
+pub struct Row {
+    pub ends: [usize; 2],
+    pub length: u64,
+    pub weight: i64,
+}
+
+/// An accepted net.
+pub struct Net {
+    pub n: usize,
+    pub bound: u64,
+    pub rows: Vec<Row>,
+    /// For each node, its (row, other end).
+    beside: Vec<Vec<(usize, usize)>>,
+}
+
+/// From one node to every node: the length and weight of the path, and the row and node it comes from last.
+pub struct From {
+    pub length: Vec<u64>,
+    pub weight: Vec<i64>,
+    pub last: Vec<Option<(usize, usize)>>,
+}
+
+fn u16_at(s: &[u8], at: usize) -> usize {
+    u16::from_le_bytes([s[at], s[at + 1]]) as usize
+}
+
+fn u32_at(s: &[u8], at: usize) -> u32 {
+    u32::from_le_bytes([s[at], s[at + 1], s[at + 2], s[at + 3]])
+}
+
+/// Refusals 1 to 12, in document 01's order.
+pub fn accept(s: &[u8]) -> Result<Net, Refused> {
+    if s.len() < 12 {
+        return Err((1, 0));
+    }
+    if &s[0..3] != b"RTN" {
+        return Err((2, 0));
+    }
+    if u16_at(s, 3) != 1 {
+        return Err((3, 0));
+    }
+    let n = u16_at(s, 5);
+    if n == 0 || n > 4096 {
+        return Err((4, 0));
+    }
+    if s[7] != 0 {
+        return Err((5, 0));
+    }
+    if s.len() != 12 * n {
+        return Err((6, 0));
+    }
+    let mut rows = Vec::new();
+    for r in 0..n - 1 {
+        let at = 12 + 12 * r;
+        let ends = [u16_at(s, at), u16_at(s, at + 2)];
+        let length = u32_at(s, at + 4) as u64;
+        let weight = u32_at(s, at + 8) as i32 as i64;
+        if ends[0] >= n || ends[1] >= n {
+            return Err((7, r));
+        }
+        if ends[0] == ends[1] {
+            return Err((8, r));
+        }
+        if length > 1_000_000 {
+            return Err((9, r));
+        }
+        if !(-1_000_000..=1_000_000).contains(&weight) {
+            return Err((10, r));
+        }
+        rows.push(Row { ends, length, weight });
+    }
+    // Nodes that the rows so far join have one label.
+    let mut label: Vec<usize> = (0..n).collect();
+    for (r, row) in rows.iter().enumerate() {
+        let (x, y) = (label[row.ends[0]], label[row.ends[1]]);
+        if x == y {
+            return Err((11, r));
+        }
+        for l in label.iter_mut() {
+            if *l == y {
+                *l = x;
+            }
+        }
+    }
+    if label.iter().any(|l| *l != label[0]) {
+        return Err((12, 0));
+    }
+    let mut beside = vec![Vec::new(); n];
+    for (r, row) in rows.iter().enumerate() {
+        beside[row.ends[0]].push((r, row.ends[1]));
+        beside[row.ends[1]].push((r, row.ends[0]));
+    }
+    Ok(Net { n, bound: u32_at(s, 8) as u64, rows, beside })
+}
+
+impl Net {
+    /// Walks from `a` to every node. A marked branch weighs 0.
+    pub fn from(&self, a: usize, marks: &[u16]) -> From {
+        let mut f = From { length: vec![0; self.n], weight: vec![0; self.n], last: vec![None; self.n] };
+        let mut to_do = vec![a];
+        while let Some(x) = to_do.pop() {
+            for &(r, y) in &self.beside[x] {
+                if f.last[x].map(|l| l.0) == Some(r) {
+                    continue;
+                }
+                f.length[y] = f.length[x] + self.rows[r].length;
+                f.weight[y] = f.weight[x] + if marks[r] == 0 { self.rows[r].weight } else { 0 };
+                f.last[y] = Some((r, x));
+                to_do.push(y);
+            }
+        }
+        f
+    }
+
+    /// Each node's head: the top of its spine.
+    pub fn heads(&self) -> Vec<usize> {
+        let down = self.from(0, &vec![0; self.n - 1]);
+        let parent: Vec<Option<usize>> = down.last.iter().map(|l| l.map(|l| l.1)).collect();
+        let leaf = |x: usize| !parent.contains(&Some(x));
+        let mut leaves = vec![0; self.n];
+        for x in (0..self.n).filter(|x| leaf(*x)) {
+            let mut up = Some(x);
+            while let Some(y) = up {
+                leaves[y] += 1;
+                up = parent[y];
+            }
+        }
+        // The child with most leaves below it, among equals the lowest.
+        let mut main: Vec<Option<usize>> = vec![None; self.n];
+        for c in 0..self.n {
+            if let Some(p) = parent[c] {
+                if main[p].map_or(true, |m| leaves[c] > leaves[m]) {
+                    main[p] = Some(c);
+                }
+            }
+        }
+        (0..self.n)
+            .map(|x| {
+                let mut top = x;
+                while let Some(p) = parent[top] {
+                    if main[p] != Some(top) {
+                        break;
+                    }
+                    top = p;
+                }
+                top
+            })
+            .collect()
+    }
+
+    /// The rows and the nodes of the path between `a` and `b`.
+    pub fn path(&self, a: usize, b: usize) -> (Vec<usize>, Vec<usize>) {
+        let f = self.from(a, &vec![0; self.n - 1]);
+        let (mut rows, mut nodes, mut x) = (Vec::new(), vec![b], b);
+        while let Some((r, y)) = f.last[x] {
+            rows.push(r);
+            nodes.push(y);
+            x = y;
+        }
+        (rows, nodes)
+    }
+
+    /// 13.
+    fn marks_fit(&self, marks: &[u16]) -> Result<(), Refused> {
+        if marks.len() != self.n - 1 { Err((13, 0)) } else { Ok(()) }
+    }
+
+    /// 15.
+    fn two_nodes(&self, a: u16, b: u16) -> Result<(usize, usize), Refused> {
+        let (a, b) = (a as usize, b as usize);
+        if a >= self.n || b >= self.n || a == b { Err((15, 0)) } else { Ok((a, b)) }
+    }
+}
+
+/// 14.
+fn run_number(run: u16) -> Result<(), Refused> {
+    if run == 0 || run == 65535 { Err((14, 0)) } else { Ok(()) }
+}
+
+/// Length, weight and hops of the path between two nodes.
+pub fn pair(s: &[u8], marks: &[u16], a: u16, b: u16) -> Result<(u64, i64, usize), Refused> {
+    let net = accept(s)?;
+    net.marks_fit(marks)?;
+    let (a, b) = net.two_nodes(a, b)?;
+    let f = net.from(a, marks);
+    let heads = net.heads();
+    let mut touched: Vec<usize> = net.path(a, b).1.iter().map(|x| heads[*x]).collect();
+    touched.sort();
+    touched.dedup();
+    Ok((f.length[b], f.weight[b], touched.len()))
+}
+
+/// The heaviest run: lower node, higher node, length, weight.
+pub fn heaviest(s: &[u8], marks: &[u16]) -> Result<(usize, usize, u64, i64), Refused> {
+    let net = accept(s)?;
+    net.marks_fit(marks)?;
+    let mut best: Option<(usize, usize, u64, i64)> = None;
+    for a in 0..net.n {
+        let f = net.from(a, marks);
+        for b in a + 1..net.n {
+            if f.length[b] > net.bound {
+                continue;
+            }
+            // Pairs come in order, so an equal one never takes an earlier one's place.
+            let better = match best {
+                None => true,
+                Some((_, _, l, w)) => f.weight[b] > w || f.weight[b] == w && f.length[b] < l,
+            };
+            if better {
+                best = Some((a, b, f.length[b], f.weight[b]));
+            }
+        }
+    }
+    best.ok_or((16, 0))
+}
+
+/// Each node's head into the lent list.
+pub fn heads(s: &[u8], list: &mut [u16]) -> Result<(), Refused> {
+    let net = accept(s)?;
+    if list.len() != net.n {
+        return Err((20, 0));
+    }
+    for (x, h) in net.heads().iter().enumerate() {
+        list[x] = *h as u16;
+    }
+    Ok(())
+}
+
+/// The page after the starting pair into the lent bytes: rows written, rows left over.
+pub fn listing(s: &[u8], marks: &[u16], floor: i64, start: (u16, u16), page: &mut [u8]) -> Result<(usize, usize), Refused> {
+    let net = accept(s)?;
+    net.marks_fit(marks)?;
+    if page.len() < 16 {
+        return Err((17, 0));
+    }
+    let (mut written, mut left) = (0, 0);
+    for a in 0..net.n {
+        let f = net.from(a, marks);
+        for b in a + 1..net.n {
+            let after = (a, b) > (start.0 as usize, start.1 as usize);
+            if !after || f.length[b] > net.bound || f.weight[b] < floor {
+                continue;
+            }
+            if 16 * (written + 1) > page.len() {
+                left += 1;
+                continue;
+            }
+            let row = &mut page[16 * written..16 * written + 16];
+            row[0..2].copy_from_slice(&(a as u16).to_le_bytes());
+            row[2..4].copy_from_slice(&(b as u16).to_le_bytes());
+            row[4..8].copy_from_slice(&(f.length[b] as u32).to_le_bytes());
+            row[8..16].copy_from_slice(&f.weight[b].to_le_bytes());
+            written += 1;
+        }
+    }
+    Ok((written, left))
+}
+
+/// Each free branch of the path becomes held by the run: how many.
+pub fn claim(s: &[u8], marks: &mut [u16], run: u16, a: u16, b: u16) -> Result<usize, Refused> {
+    let net = accept(s)?;
+    net.marks_fit(marks)?;
+    run_number(run)?;
+    let (a, b) = net.two_nodes(a, b)?;
+    let rows = net.path(a, b).0;
+    if rows.iter().map(|r| net.rows[*r].length).sum::<u64>() > net.bound {
+        return Err((18, 0));
+    }
+    let free: Vec<usize> = rows.into_iter().filter(|r| marks[*r] == 0).collect();
+    if free.is_empty() {
+        return Err((19, 0));
+    }
+    for r in &free {
+        marks[*r] = run;
+    }
+    Ok(free.len())
+}
+
+/// Commit (`to` is 65,535) and abort (`to` is 0): each branch held by the run becomes so; how many.
+pub fn settle(s: &[u8], marks: &mut [u16], run: u16, to: u16) -> Result<usize, Refused> {
+    let net = accept(s)?;
+    net.marks_fit(marks)?;
+    run_number(run)?;
+    let mut changed = 0;
+    for m in marks.iter_mut().filter(|m| **m == run) {
+        *m = to;
+        changed += 1;
+    }
+    Ok(changed)
+}
