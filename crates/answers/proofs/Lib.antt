@@ -10,3 +10,4 @@ pub mod Scanning
 pub mod PairShown
 pub mod PairOnly
 pub mod PairHolders
+pub mod PairTheorems

@@ -1,6 +1,5 @@
 -- The floor of a binary logarithm: every number above 0 has one, and what is at least 2 to the i has one of at least i.
 use Prim.Native.Nat.{ℕ, zero, suc, _+_, _^_, _≤_, _<_}
-use mathlib.Core.Path.{_≡_}
 use native.Mathlib.Omega.{arith}
 use native.Mathlib.Numerals.{add-one}
 use native.Mathlib.Decide.{decLe}
@@ -14,9 +13,6 @@ log-least i x k h f = pick (decLe i k)
     pick : Dec (i ≤ k) → i ≤ k
     pick (yes e) = e
     pick (no m) = let e : k + 1 ≤ i = omega arith in absurd (omega (arith, f .most, pow-mono e))
-
-pub log-one : {x k l : ℕ} → FloorLog x k → FloorLog x l → k ≡ l
-log-one {x} {k} {l} f g = omega (arith, log-least k x l (f .least) g, log-least l x k (g .least) f)
 
 pub log-some : (x : ℕ) → 0 < x → (k : ℕ) × FloorLog x k
 log-some x z = up-from x (high x)

@@ -9,6 +9,7 @@ use Rattle.tree.specs.Graph.{Forest}
 use Rattle.tree.specs.Rooted.{Above, self, up, Passed, Rooted}
 use Rattle.tree.proofs.Counts.{count-unique, count-same}
 use Rattle.tree.proofs.OnePath.{unique}
+use Rattle.tree.proofs.Flip.{flip}
 use Rattle.tree.proofs.Rooted.{above-inv}
 use Rattle.tree.proofs.Above.{Tree, fits-up}
 use Rattle.tree.proofs.Climbs.{none-passed, root-above}
@@ -26,6 +27,18 @@ use Rattle.spines.proofs.Net.{child-net, net-child}
 -- one number of hops
 pub hops-only : {u v : ℕ → ℕ} {k n x y h g : ℕ} → Forest u v k → Hops u v k n x y h → Hops u v k n x y g → h ≡ g
 hops-only {u} {v} F p q = count-unique (p .touches) (rw (unique u v F (p .walk) (q .walk) (p .once) (q .once) .1) (q .touches))
+
+-- the same either way
+pub hops-flip : {u v : ℕ → ℕ} {k n x y h : ℕ} → Hops u v k n x y h → Hops u v k n y x h
+hops-flip {u} {v} p =
+    let f = flip u v (p .walk) in
+    record {
+      rows = f .rows;
+      nodes = f .nodes;
+      walk = f .walk;
+      once = f .once (p .once);
+      touches = count-same (λ h t. record { node = t .node; on = f .fro (t .node) (t .on); head = t .head }) (λ h t. record { node = t .node; on = f .to (t .node) (t .on); head = t .head }) (p .touches);
+    }
 
 -- any two nodes' climbs meet, and pass nothing in common before
 pub record Meeting (par : ℕ → ℕ) (x y t : ℕ) : Type 0 where
@@ -72,6 +85,9 @@ module _ {u v : ℕ → ℕ} {k n : ℕ} {par row place : ℕ → ℕ} (R : Root
   -- the leaves of the net are those below the root
   root-leaves : (a : ℕ) → Count (Leaf (ChildOf u v k n) n) a → Leaves (Child n par) n 0 a
   root-leaves a l = count-same (λ x h. leaf-under T (same-leaf (net-child R T some) (child-net R T some) x h) (root-above T x (h .fits))) (λ x h. same-leaf (child-net R T some) (net-child R T some) x (h .leaf)) l
+
+  pub leaves-root : (a : ℕ) → Leaves (Child n par) n 0 a → Count (Leaf (ChildOf u v k n) n) a
+  leaves-root a l = count-same (λ x h. same-leaf (child-net R T some) (net-child R T some) x (h .leaf)) (λ x h. leaf-under T (same-leaf (net-child R T some) (child-net R T some) x h) (root-above T x (h .fits))) l
 
   pub hops-bound : (x y h a c : ℕ) → x < n → y < n → Hops u v k n x y h → Count (Leaf (ChildOf u v k n) n) a → FloorLog a c → h ≤ 1 + 2 * c
   hops-bound x y h a c bx by p la fl =

@@ -16,3 +16,4 @@ pub mod HopsBound
 pub mod Copying
 pub mod HeadsOnly
 pub mod HopsCounted
+pub mod Theorems

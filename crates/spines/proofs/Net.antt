@@ -88,6 +88,3 @@ module _ {u v : ℕ → ℕ} {k n : ℕ} {par row place : ℕ → ℕ} (R : Root
   -- heads by the walk's parents are heads
   pub head-net : {h x : ℕ} → Head (Child n par) n h x → Head (ChildOf u v k n) n h x
   head-net k = same-head child-net net-child k
-
-  pub net-head : {h x : ℕ} → Head (ChildOf u v k n) n h x → Head (Child n par) n h x
-  net-head k = same-head net-child child-net k

@@ -28,3 +28,5 @@ pub mod Route
 pub mod Far
 pub mod Meeting
 pub mod Short
+pub mod Hung
+pub mod Flip
