@@ -11,8 +11,8 @@ fn number(arg: Option<String>) -> u64 {
 }
 
 fn usage() -> ! {
-    eprintln!("usage: oracle make SEED COUNT LIMIT > CASES    COUNT cases of at most LIMIT nodes (1 to 4096)");
-    eprintln!("       oracle answer < CASES                   ten lines for each case");
+    eprintln!("usage: oracle make SEED COUNT LIMIT [worked] > CASES    COUNT cases of at most LIMIT nodes (1 to 4096), the worked ones first");
+    eprintln!("       oracle answer < CASES                            ten lines for each case");
     std::process::exit(2)
 }
 
@@ -25,7 +25,8 @@ fn main() -> Result<()> {
             if !(1..=4096).contains(&limit) {
                 usage();
             }
-            cases::write(&mut out, &make::cases(seed, count as usize, limit as usize))?;
+            let with_worked = args.next().as_deref() == Some("worked");
+            cases::write(&mut out, &make::cases(seed, count as usize, limit as usize, with_worked))?;
         }
         Some("answer") => {
             for c in cases::read(&mut BufReader::new(stdin().lock()))? {

@@ -243,10 +243,10 @@ fn damage_again(r: &mut Random, t: &mut Vec<u8>) {
     }
 }
 
-/// The worked cases, then random ones up to `count` in all, with at most `limit` nodes.
-pub fn cases(seed: u64, count: usize, limit: usize) -> Vec<Case> {
+/// `count` random cases of at most `limit` nodes; the first are the worked ones instead, where these are wanted.
+pub fn cases(seed: u64, count: usize, limit: usize, with_worked: bool) -> Vec<Case> {
     let mut r = Random(seed);
-    let mut all = worked();
+    let mut all = if with_worked { worked() } else { Vec::new() };
     all.truncate(count);
     while all.len() < count {
         all.push(random(&mut r, limit));
