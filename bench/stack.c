@@ -6,7 +6,7 @@
 #include <stdlib.h>
 #include <string.h>
 
-enum { STACK = 16 << 20, NODES = 4096, OPS = 9, PAINT = 0xA5 };
+enum { STACK = 2 << 20, NODES = 4096, OPS = 9, PAINT = 0xA5 };
 static const char *names[OPS] = {"(the thread itself)", "hb_accept", "hb_pair", "hb_heaviest", "hb_heads", "hb_listing", "hb_claim", "hb_commit", "hb_abort"};
 static uint8_t table[12 * NODES], page[65536];
 static uint16_t marks[NODES], heads[NODES];

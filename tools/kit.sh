@@ -11,9 +11,13 @@ run_proved() {
     $emulator "$kit_tools/lib/ld-linux-x86-64.so.2" --library-path "$kit_tools/lib" "$@"
 }
 
-# A C program that was linked with -static.
-run_static() {
-    $emulator "$@"
+# A C program that $cross linked.
+run_c() {
+    if [ -z "$emulator" ]; then
+        "$@"
+    else
+        "$emulator" -L "$(dirname "$(dirname "$("$cross" -print-file-name=libc.so.6)")")" "$@"
+    fi
 }
 
 # The C compiler for x86-64.
