@@ -1,0 +1,80 @@
+-- The claim: all starred cases of document 01 hold of the definitions. Each operation has a test that computes and a law that what passes it holds; the list is then a computation.
+use Prim.Native.Nat.{ℕ}
+use mathlib.Core.Bool.{Bool, true, _&&_}
+use mathlib.Core.List.{List, [], _∷_}
+use native.Mathlib.Decide.{ℕ-discrete, decLe, decLt}
+use lib.Dec.{T}
+use lib.ListN.{getD}
+use Rattle.tree.specs.Net.{firstEnd, secondEnd, lengthOf, weightOf}
+use Rattle.tree.specs.Value.{Total}
+use Rattle.tree.proofs.Counts.{count-dec}
+use Rattle.tree.proofs.Labels.{label, relabel, grows}
+use Rattle.spines.proofs.Leaves.{some?, above?, child?, leaf?, leaf-under?, leaves-some, many}
+use Rattle.spines.proofs.Main.{best, main-some, main?}
+use Rattle.spines.proofs.Head.{head-some}
+use Rattle.marks.specs.Weighs.{weighs, weightUnder}
+use Rattle.pages.specs.Bytes.{bytes, row, rows}
+use Rattle.worked.specs.Case.{Case, heaviest, listing, heads, leaves, pair, claim, Holds, All}
+use Rattle.worked.specs.Cases.{n5, free, held, marked, lent, three, cases}
+use Rattle.worked.proofs.Tests.{both, every, below, has, throughout, no-repeat, same}
+use Rattle.worked.proofs.Accepted.{accepted?}
+use Rattle.worked.proofs.Ways.{other, met, leads, path?}
+use Rattle.worked.proofs.Pairs.{ways?, wanted?, all-pairs}
+use Rattle.worked.proofs.Entries.{after?, at-least?, same-entry, each, has-entry, rising?}
+use Rattle.worked.proofs.Page.{listing?, is-listing, seconds, firsts}
+use Rattle.worked.proofs.Claimed.{claim?, is-claim, frees}
+use Rattle.worked.proofs.Hung.{par, hangs?, headAt}
+use Rattle.worked.proofs.Headed.{heads?, is-heads, leaves?, are-leaves}
+use Rattle.worked.proofs.Measured.{once, heads-of, pair?, is-pair}
+use Rattle.worked.proofs.Best.{heaviest?, is-heaviest}
+
+-- the rows of each path of N5 from a to b, the lower node first
+unfoldable ways : List (List (List ℕ))
+ways =
+    ([] ∷ (0 ∷ []) ∷ (0 ∷ 1 ∷ []) ∷ (0 ∷ 2 ∷ []) ∷ (0 ∷ 2 ∷ 3 ∷ []) ∷ [])
+    ∷ ([] ∷ [] ∷ (1 ∷ []) ∷ (2 ∷ []) ∷ (2 ∷ 3 ∷ []) ∷ [])
+    ∷ ([] ∷ [] ∷ [] ∷ (1 ∷ 2 ∷ []) ∷ (1 ∷ 2 ∷ 3 ∷ []) ∷ [])
+    ∷ ([] ∷ [] ∷ [] ∷ [] ∷ (3 ∷ []) ∷ [])
+    ∷ []
+
+unfoldable way : ℕ → ℕ → List ℕ
+way a b = getD (getD ways a []) b []
+
+-- each node's parent, and the row to it
+unfoldable up : ℕ → ℕ
+up x = getD (0 ∷ 0 ∷ 1 ∷ 1 ∷ 3 ∷ []) x 0
+
+unfoldable by : ℕ → ℕ
+by x = getD (0 ∷ 0 ∷ 1 ∷ 2 ∷ 3 ∷ []) x 0
+
+-- the test of a case, by its operation
+unfoldable check : Case → Bool
+check (heaviest s marks o) = heaviest? way s marks o
+check (listing s marks floor low high lent o) = listing? way s marks floor low high lent o
+check (heads s lent o) = heads? up by s lent o
+check (leaves s nodes) = leaves? up by s nodes
+check (pair s marks a b o) = pair? way up by s marks a b o
+check (claim s marks run a b o) = claim? way s marks run a b o
+
+check-holds : (c : Case) → T (check c) → Holds c
+unfolding check
+check-holds (heaviest s marks o) t = is-heaviest way s marks o t
+check-holds (listing s marks floor low high lent o) t = is-listing way s marks floor low high lent o t
+check-holds (heads s lent o) t = is-heads up by s lent o t
+check-holds (leaves s nodes) t = are-leaves up by s nodes t
+check-holds (pair s marks a b o) t = is-pair way up by s marks a b o t
+check-holds (claim s marks run a b o) t = is-claim way s marks run a b o t
+
+unfoldable check-all : List Case → Bool
+check-all [] = true
+check-all (c ∷ l) = check c && check-all l
+
+all-hold : (l : List Case) → T (check-all l) → All l
+unfolding check-all
+all-hold [] t = tt
+all-hold (c ∷ l) t = let a = both (check c) (check-all l) t in (check-holds c (a .0), all-hold l (a .1))
+
+-- Every starred case holds.
+pub cases-hold : All cases
+unfolding head-some main? main-some best many count-dec leaves-some leaf-under? leaf? child? above? some? decLt decLe up by heads? leaves? pair? hangs? par headAt once heads-of check-all check cases n5 free held marked lent three way ways heaviest? claim? frees throughout listing? seconds firsts bytes row rows rising? each has-entry same-entry same accepted? ways? path? leads met other wanted? all-pairs at-least? after? every below has no-repeat label relabel grows ℕ-discrete firstEnd secondEnd lengthOf weightOf weightUnder weighs Total
+cases-hold = all-hold cases tt
