@@ -11,3 +11,4 @@ pub mod PairShown
 pub mod PairOnly
 pub mod PairHolders
 pub mod PairTheorems
+pub mod Demand2
