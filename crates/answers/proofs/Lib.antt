@@ -12,3 +12,4 @@ pub mod PairOnly
 pub mod PairHolders
 pub mod PairTheorems
 pub mod Demand2
+pub mod Few

@@ -1,0 +1,41 @@
+-- Each C function's promise allows one outcome: it shows the operation's own, of which there is one.
+use Prim.Native.Nat.{ℕ}
+use mathlib.Core.Path.{_≡_, sym, ap, _∙_}
+use mathlib.Core.List.{List}
+use lib.IntN.{ℤ}
+use Rattle.table.specs.Refuse.{Only}
+use Rattle.tree.proofs.Begins.{accept-only}
+use Rattle.spines.proofs.HeadsOnly.{heads-only}
+use Rattle.marks.proofs.MarksOnly.{claim-only, commit-only, abort-only}
+use Rattle.answers.proofs.PairOnly.{pair-only}
+use Rattle.answers.proofs.HeaviestOnly.{heaviest-only}
+use Rattle.answers.proofs.ListingOnly.{listing-only}
+use Rattle.capi.specs.Call.{Call, Shows}
+use Rattle.capi.specs.Shown.{acceptance, pair, heaviest, heads, listing, change, AcceptCall, PairCall, HeaviestCall, HeadsCall, ListingCall, ClaimCall, CommitCall, AbortCall}
+
+shows-only : {O : Type 0} {Promise : O → Type 0} (inC : O → Call) → Only Promise → Only (Shows Promise inC)
+shows-only inC o x y p q = p .shown ∙ ap inC (o (p .outcome) (q .outcome) (p .promise) (q .promise)) ∙ sym (q .shown)
+
+pub hb-accept-only : (s : List ℕ) → Only (AcceptCall s)
+hb-accept-only s = shows-only acceptance (accept-only s)
+
+pub hb-pair-only : (s marks : List ℕ) (a b : ℕ) → Only (PairCall s marks a b)
+hb-pair-only s marks a b = shows-only pair (pair-only s marks a b)
+
+pub hb-heaviest-only : (s marks : List ℕ) → Only (HeaviestCall s marks)
+hb-heaviest-only s marks = shows-only heaviest (heaviest-only s marks)
+
+pub hb-heads-only : (s before : List ℕ) → Only (HeadsCall s before)
+hb-heads-only s before = shows-only heads (heads-only s before)
+
+pub hb-listing-only : (s marks : List ℕ) (floor : ℤ) (low high : ℕ) (old : List ℕ) → Only (ListingCall s marks floor low high old)
+hb-listing-only s marks floor low high old = shows-only listing (listing-only s marks floor low high old)
+
+pub hb-claim-only : (s before : List ℕ) (run a b : ℕ) → Only (ClaimCall s before run a b)
+hb-claim-only s before run a b = shows-only change (claim-only s before run a b)
+
+pub hb-commit-only : (s before : List ℕ) (run : ℕ) → Only (CommitCall s before run)
+hb-commit-only s before run = shows-only change (commit-only s before run)
+
+pub hb-abort-only : (s before : List ℕ) (run : ℕ) → Only (AbortCall s before run)
+hb-abort-only s before run = shows-only change (abort-only s before run)

@@ -1,0 +1,3 @@
+-- What a reader must believe of the C functions.
+pub mod Call
+pub mod Shown

@@ -1,0 +1,32 @@
+// The eight numbers of an answer, written in one place.
+ghost use mathlib.Core.Path.{_≡_};
+ghost use lib.IntN.{pos};
+ghost use Prim.Native.Nat.{_<_};
+ghost use Rattle.capi.specs.Call.{eight};
+
+// A number that is not negative, as a signed one.
+pub(crate) fn signed(x: u64) -> i64
+    requires { ⌜ x < 9223372036854775808 ⌝ }
+    ensures { λ r. ⌜ r ≡ pos x ⌝ }
+{
+    x as i64
+}
+
+// Writes all eight, and hands back the number.
+pub(crate) fn fill(
+    answer: &mut [i64; 8],
+    number: u8,
+    row: usize,
+    f0: i64,
+    f1: i64,
+    f2: i64,
+    f3: i64,
+) -> u8
+    requires { ⌜ row < 4096 ⌝ }
+    ensures { λ r. ⌜ (r ≡ number) × (now (answer .exit) ≡ eight number row f0 f1 f2 f3) ⌝ }
+{
+    let k = signed(number as u64);
+    let r = signed(row as u64);
+    *answer = [k, r, 0, f0, f1, f2, f3, 0];
+    return number;
+}

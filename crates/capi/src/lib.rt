@@ -1,0 +1,161 @@
+// The operations for C, Rust and the editor plugin; include/hourbench.h declares them. A `&[u8]` is a pointer and a length to C, an `&mut [i64; 8]` a pointer.
+// Each function returns the refusal number (0: none) and writes all 8 of `answer`: number, row, 0 (kept for a later field), the operation's fields in order, zeros.
+mod answer;
+
+ghost use mathlib.Core.List.{[]};
+ghost use Rattle.capi.specs.Call.{call};
+ghost use Rattle.capi.specs.Shown.{AcceptCall, PairCall, HeaviestCall, HeadsCall, ListingCall, ClaimCall, CommitCall, AbortCall};
+use answer::fill;
+use answer::signed;
+use answers::Listed;
+use answers::PairAnswer;
+use answers::Run;
+use marks::Change;
+use spines::HeadsAnswer;
+use tree::Acceptance;
+
+// Fields: nodes, bound.
+#[no_mangle]
+pub extern "C" fn hb_accept(table: &[u8], answer: &mut [i64; 8]) -> u8
+    ensures { λ r. ⌜ AcceptCall (now (table .entry)) (call r (now (answer .exit)) []) ⌝ }
+{
+    let o = tree::accept(table);
+    match o {
+        Acceptance::Refused(why) => fill(answer, why.number, why.row, 0, 0, 0, 0),
+        Acceptance::Accepted { nodes, bound } => {
+            let n = signed(nodes as u64);
+            let b = signed(bound as u64);
+            fill(answer, 0, 0, n, b, 0, 0)
+        }
+    }
+}
+
+// Fields: length, weight, hops.
+#[no_mangle]
+pub extern "C" fn hb_pair(table: &[u8], marks: &[u16], a: u16, b: u16, answer: &mut [i64; 8]) -> u8
+    ensures { λ r. ⌜ PairCall (now (table .entry)) (now (marks .entry)) a b (call r (now (answer .exit)) []) ⌝ }
+{
+    let o = answers::pair(table, marks, a, b);
+    match o {
+        PairAnswer::Refused(why) => fill(answer, why.number, why.row, 0, 0, 0, 0),
+        PairAnswer::Found {
+            length,
+            weight,
+            hops,
+        } => {
+            let l = signed(length as u64);
+            let h = signed(hops as u64);
+            fill(answer, 0, 0, l, weight, h, 0)
+        }
+    }
+}
+
+// Fields: low, high, length, weight.
+#[no_mangle]
+pub extern "C" fn hb_heaviest(table: &[u8], marks: &[u16], answer: &mut [i64; 8]) -> u8
+    ensures { λ r. ⌜ HeaviestCall (now (table .entry)) (now (marks .entry)) (call r (now (answer .exit)) []) ⌝ }
+{
+    let o = answers::heaviest(table, marks);
+    match o {
+        Run::Refused(why) => fill(answer, why.number, why.row, 0, 0, 0, 0),
+        Run::Between {
+            low,
+            high,
+            length,
+            weight,
+        } => {
+            let a = signed(low as u64);
+            let b = signed(high as u64);
+            let l = signed(length as u64);
+            fill(answer, 0, 0, a, b, l, weight)
+        }
+    }
+}
+
+// No fields; each node's head into `heads`.
+#[no_mangle]
+pub extern "C" fn hb_heads(table: &[u8], heads: &mut [u16], answer: &mut [i64; 8]) -> u8
+    ensures { λ r. ⌜ HeadsCall (now (table .entry)) (now (heads .entry)) (call r (now (answer .exit)) (now (heads .exit))) ⌝ }
+{
+    let o = spines::heads(table, heads);
+    match o {
+        HeadsAnswer::Refused(why) => fill(answer, why.number, why.row, 0, 0, 0, 0),
+        HeadsAnswer::Written => fill(answer, 0, 0, 0, 0, 0, 0),
+    }
+}
+
+// Fields: written, left; the rows into `rows`.
+#[no_mangle]
+pub extern "C" fn hb_listing(
+    table: &[u8],
+    marks: &[u16],
+    floor: i64,
+    low: u16,
+    high: u16,
+    rows: &mut [u8],
+    answer: &mut [i64; 8],
+) -> u8
+    ensures { λ r. ⌜ ListingCall (now (table .entry)) (now (marks .entry)) floor low high (now (rows .entry)) (call r (now (answer .exit)) (now (rows .exit))) ⌝ }
+{
+    let o = answers::listing(table, marks, floor, low, high, rows);
+    match o {
+        Listed::Refused(why) => fill(answer, why.number, why.row, 0, 0, 0, 0),
+        Listed::Rows { written, left } => {
+            let w = signed(written as u64);
+            let l = signed(left as u64);
+            fill(answer, 0, 0, w, l, 0, 0)
+        }
+    }
+}
+
+// Fields: claimed; the marks change in place.
+#[no_mangle]
+pub extern "C" fn hb_claim(
+    table: &[u8],
+    marks: &mut [u16],
+    run: u16,
+    a: u16,
+    b: u16,
+    answer: &mut [i64; 8],
+) -> u8
+    ensures { λ r. ⌜ ClaimCall (now (table .entry)) (now (marks .entry)) run a b (call r (now (answer .exit)) (now (marks .exit))) ⌝ }
+{
+    let o = marks::claim(table, marks, run, a, b);
+    match o {
+        Change::Refused(why) => fill(answer, why.number, why.row, 0, 0, 0, 0),
+        Change::Changed(count) => {
+            let k = signed(count as u64);
+            fill(answer, 0, 0, k, 0, 0, 0)
+        }
+    }
+}
+
+// Fields: changed; the marks change in place.
+#[no_mangle]
+pub extern "C" fn hb_commit(table: &[u8], marks: &mut [u16], run: u16, answer: &mut [i64; 8]) -> u8
+    ensures { λ r. ⌜ CommitCall (now (table .entry)) (now (marks .entry)) run (call r (now (answer .exit)) (now (marks .exit))) ⌝ }
+{
+    let o = marks::commit(table, marks, run);
+    match o {
+        Change::Refused(why) => fill(answer, why.number, why.row, 0, 0, 0, 0),
+        Change::Changed(count) => {
+            let k = signed(count as u64);
+            fill(answer, 0, 0, k, 0, 0, 0)
+        }
+    }
+}
+
+// Fields: changed; the marks change in place.
+#[no_mangle]
+pub extern "C" fn hb_abort(table: &[u8], marks: &mut [u16], run: u16, answer: &mut [i64; 8]) -> u8
+    ensures { λ r. ⌜ AbortCall (now (table .entry)) (now (marks .entry)) run (call r (now (answer .exit)) (now (marks .exit))) ⌝ }
+{
+    let o = marks::abort(table, marks, run);
+    match o {
+        Change::Refused(why) => fill(answer, why.number, why.row, 0, 0, 0, 0),
+        Change::Changed(count) => {
+            let k = signed(count as u64);
+            fill(answer, 0, 0, k, 0, 0, 0)
+        }
+    }
+}

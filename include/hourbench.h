@@ -1,0 +1,79 @@
+/* Hourbench for C: the heaviest run in one routed net. Link target/staticlib/libcapi.a (`rt staticlib capi`), x86-64 Linux.
+
+   Every function returns the refusal number, 0 where nothing is refused, and writes all 8 of `answer`:
+
+       answer[0]     the refusal number, as returned
+       answer[1]     the row that a refusal names, from 0; 0 where none is named
+       answer[2]     0, kept for a later field
+       answer[3..]   the operation's fields, in the order named at each function; zeros after them, and in a refusal
+
+   A refusal changes no other memory. What each function promises is proved (docs/PROMISES.md, capi).
+
+   What a caller owes, at every call:
+   - No pointer is null, also where the length is 0: any address that suits the type does for nothing.
+   - Each pointer is aligned for its type, and the elements that its length counts are there, initialised and readable;
+     `answer` has 8. A parameter without `const` is writable.
+   - Memory that is written (`heads`, `rows`, `marks` of claim, commit and abort, and `answer`) overlaps no other argument, and
+     no other thread reads or writes it before the call returns. Memory that is read is not changed before the call returns.
+   - There is stack for the operation's work arrays (docs/GUIDE.md says how much); there is no heap, and nothing is kept
+     between calls, so that calls from several threads do not meet.
+
+   table     the branch table, version 1: 12 x n bytes
+   marks     one number for each branch, in row order, n - 1 of them: 0 free, 1 to 65,534 held by that run, 65,535 spent
+
+   Refusal numbers, each given exactly when its condition holds and none before it in the operation's order does:
+        1  under 12 bytes                         11  ring: the row whose ends earlier rows already join
+        2  mark not RTN                           12  no ring, yet some node isn't joined to node 0
+        3  version not 1                          13  marks are not n - 1 in number
+        4  n is 0 or above 4,096                  14  run number 0 or 65,535
+        5  reserved byte not 0                    15  a node not below n, or both the same
+        6  size not 12 x n                        16  no pair within the bound
+        7  row names a node not below n           17  under 16 bytes for rows
+        8  row joins a node to itself             18  path longer than the bound
+        9  length out of range                    19  no free branch on the path
+       10  weight out of range                    20  list of heads is not n long
+   Every function begins with 1 to 12. */
+#ifndef HOURBENCH_H
+#define HOURBENCH_H
+
+#include <stddef.h>
+#include <stdint.h>
+
+#ifdef __cplusplus
+extern "C" {
+#endif
+
+/* Is the table a tree? Fields: nodes, bound. */
+uint8_t hb_accept(const uint8_t *table, size_t table_len, int64_t *answer);
+
+/* The path between two nodes, in either order; one longer than the bound is shown. Fields: length, weight, hops. Then 13, 15. */
+uint8_t hb_pair(const uint8_t *table, size_t table_len, const uint16_t *marks, size_t marks_len,
+                uint16_t a, uint16_t b, int64_t *answer);
+
+/* The heaviest run within the bound; of equal weight the shorter, then the earlier pair. Fields: low, high, length, weight.
+   Then 13, 16. */
+uint8_t hb_heaviest(const uint8_t *table, size_t table_len, const uint16_t *marks, size_t marks_len, int64_t *answer);
+
+/* Each node's head, into `heads`, which is n long. No fields. Then 20. */
+uint8_t hb_heads(const uint8_t *table, size_t table_len, uint16_t *heads, size_t heads_len, int64_t *answer);
+
+/* The pairs strictly after (from_low, from_high), within the bound and weighing at least `floor`, in pair order: as many as fit
+   into `rows`, 16 bytes each, little-endian: node, node (16 bits each), length (32 bits), weight (64 bits signed). Bytes beyond
+   the rows written stay unchanged. (0, 0) starts; go on from the last pair written until none is left.
+   Fields: written, left. Then 13, 17. */
+uint8_t hb_listing(const uint8_t *table, size_t table_len, const uint16_t *marks, size_t marks_len, int64_t floor,
+                   uint16_t from_low, uint16_t from_high, uint8_t *rows, size_t rows_len, int64_t *answer);
+
+/* Each free branch of the path between a and b becomes held by the run. Fields: claimed. Then 13, 14, 15, 18, 19. */
+uint8_t hb_claim(const uint8_t *table, size_t table_len, uint16_t *marks, size_t marks_len,
+                 uint16_t run, uint16_t a, uint16_t b, int64_t *answer);
+
+/* Each branch held by the run becomes spent (commit) or free (abort); 0 is a proper result. Fields: changed. Then 13, 14. */
+uint8_t hb_commit(const uint8_t *table, size_t table_len, uint16_t *marks, size_t marks_len, uint16_t run, int64_t *answer);
+uint8_t hb_abort(const uint8_t *table, size_t table_len, uint16_t *marks, size_t marks_len, uint16_t run, int64_t *answer);
+
+#ifdef __cplusplus
+}
+#endif
+
+#endif
