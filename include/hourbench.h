@@ -15,7 +15,7 @@
      `answer` has 8. A parameter without `const` is writable.
    - Memory that is written (`heads`, `rows`, `marks` of claim, commit and abort, and `answer`) overlaps no other argument, and
      no other thread reads or writes it before the call returns. Memory that is read is not changed before the call returns.
-   - There is stack for the operation's work arrays (docs/GUIDE.md says how much); there is no heap, and nothing is kept
+   - There is stack for the operation's work arrays (docs/LINKING.md says how much); there is no heap, and nothing is kept
      between calls, so that calls from several threads do not meet.
 
    table     the branch table, version 1: 12 x n bytes
