@@ -2,17 +2,17 @@
 use libc::STDOUT_FILENO;
 use table::Refusal;
 
-pub fn word(text: &[u8]) {
+pub(crate) fn word(text: &[u8]) {
     io::write_all(STDOUT_FILENO, text);
 }
 
-pub fn number(x: u64) {
+pub(crate) fn number(x: u64) {
     io::write_all(STDOUT_FILENO, b" ");
     io::print_decimal(STDOUT_FILENO, x);
 }
 
 // A weight, brought into natural numbers by the lift of the promises.
-pub fn signed(w: i64) {
+pub(crate) fn signed(w: i64) {
     let x = pages::raised(w);
     if x < 8589934592 {
         io::write_all(STDOUT_FILENO, b" -");
@@ -22,16 +22,16 @@ pub fn signed(w: i64) {
     }
 }
 
-pub fn fine() {
+pub(crate) fn fine() {
     word(b" 0 0");
 }
 
-pub fn refused(why: Refusal) {
+pub(crate) fn refused(why: Refusal) {
     number(why.number as u64);
     number(why.row as u64);
 }
 
-pub fn sum(x: u64) {
+pub(crate) fn sum(x: u64) {
     word(b" sum");
     number(x);
     word(b"\n");
@@ -49,7 +49,7 @@ fn long(x: u16) -> u64 {
     x as u64
 }
 
-pub fn sum_bytes(m: &[u8]) {
+pub(crate) fn sum_bytes(m: &[u8]) {
     let mut s: u64 = 1;
     let mut i: usize = 0;
     while i < m.len() {
@@ -59,7 +59,7 @@ pub fn sum_bytes(m: &[u8]) {
     sum(s);
 }
 
-pub fn sum_words(m: &[u16]) {
+pub(crate) fn sum_words(m: &[u16]) {
     let mut s: u64 = 1;
     let mut i: usize = 0;
     while i < m.len() {
