@@ -7,24 +7,35 @@ use native.Mathlib.Omega.{arith}
 use native.Mathlib.Decide.{ℕ-discrete}
 use lib.ListN.{length, set, length-set}
 use lib.Seq.{getD-set-same, getD-set-other}
-use Rattle.arrays.specs.Filled.{at, Filled}
+use Rattle.arrays.specs.Filled.{at}
 use Rattle.tree.specs.Rooted.{Above, self, up}
 use Rattle.tree.proofs.Rooted.{above-inv}
 use Rattle.tree.proofs.Above.{fits-up, place-up}
 use Rattle.tree.proofs.Grown.{grown-tree}
 use Rattle.paths.specs.Ground.{Ground}
-use Rattle.paths.specs.Work.{Climbed, Marked, Climbable, Climbing}
+use Rattle.paths.specs.Work.{Cleared, Climbed, Marked, Climbable, Climbing}
 use Rattle.paths.proofs.Branch.{far-start, far-weaken, far-up}
 
-abbrev pub climbable : {n a : ℕ} {parent order place bl bw : List ℕ} → Ground n parent order place bl bw → a < n → Climbable a parent place bl bw
-climbable {n} {order} g b = record { n = n; order = order; ground = g; node = b }
+abbrev pub climbable : {n a : ℕ} {parent order place bl bw : List ℕ} → Ground n parent order place bl bw → a < n → Climbable n a parent place bl bw
+climbable {order} g b = record { order = order; ground = g; node = b }
 
-pub climbing-start : {a : ℕ} {parent place bl bw above : List ℕ} → Filled 4096 0 above → Climbing a parent place bl bw a 0 8589934592 above
-climbing-start {a} f = record {
+-- one flag more is not set
+pub cleared-more : {i : ℕ} {above : List ℕ} → i < 4096 → Cleared i above → Cleared (i + 1) (set above i 0)
+cleared-more {i} {above} b c = record { long = length-set above i 0 ∙ c .long; each = λ t h. pick t h (ℕ-discrete t i) }
+  where
+    pick : (t : ℕ) → t < i + 1 → Dec (t ≡ i) → at (set above i 0) t ≡ 0
+    pick t h (yes e) = rw e (getD-set-same above i 0 0 (omega (arith, c .long)))
+    pick t h (no d) = getD-set-other above i t 0 0 d ∙ c .each t (omega arith)
+
+pub cleared-end : {n i : ℕ} {above : List ℕ} → n ≤ i → Cleared i above → Cleared n above
+cleared-end b c = record { long = c .long; each = λ t h. c .each t (omega arith) }
+
+pub climbing-start : {n a : ℕ} {parent place bl bw above : List ℕ} → Cleared n above → Climbing n a parent place bl bw a 0 8589934592 above
+climbing-start {n} {a} f = record {
   climbed = λ k. record {
     up = self;
     far = far-weaken (k .ground) a _ (omega arith) (far-start (k .ground) a);
-    is = λ t b e. absurd (omega (arith, f .each t (omega (arith, k .ground .grown .some))));
+    is = λ t b e. absurd (omega (arith, f .each t b));
     rest = λ t b m h. h;
   };
   long = f .long;
@@ -84,9 +95,9 @@ module _ {n : ℕ} {parent order place bl bw : List ℕ} (g : Ground n parent or
       top t z (inl q) = z q
       top t z (inr q) = q .0 refl
 
-module _ {a x l w : ℕ} {parent place bl bw above : List ℕ} (c : Climbing a parent place bl bw x l w above) where
+module _ {n a x l w : ℕ} {parent place bl bw above : List ℕ} (c : Climbing n a parent place bl bw x l w above) where
   -- what the code does at x: its places and sums fit, and its parent's place is earlier
-  module _ (k : Climbable a parent place bl bw) where
+  module _ (k : Climbable n a parent place bl bw) where
     pub climb-node : x < 4096
     climb-node = omega (arith, node-in (k .ground) (k .node) (c .climbed k), k .ground .grown .some .1)
 
@@ -100,11 +111,11 @@ module _ {a x l w : ℕ} {parent place bl bw above : List ℕ} (c : Climbing a p
     pub climb-less : x ≢ 0 → (p : ℕ) → p ≡ at parent x → at place p < at place x
     climb-less z p e = rw e (k .ground .grown .earlier x (node-in (k .ground) (k .node) (c .climbed k)) z)
 
-  pub climbing-step : x ≢ 0 → (p l₁ w₁ : ℕ) → p ≡ at parent x → l₁ ≡ l + at bl x → w₁ ≡ w + at bw x - 1000000 → Climbing a parent place bl bw p l₁ w₁ (set above x 1)
+  pub climbing-step : x ≢ 0 → (p l₁ w₁ : ℕ) → p ≡ at parent x → l₁ ≡ l + at bl x → w₁ ≡ w + at bw x - 1000000 → Climbing n a parent place bl bw p l₁ w₁ (set above x 1)
   climbing-step z p l₁ w₁ ep el ew = record {
     climbed = λ k. rw ep (climbed-step (k .ground) (k .node) (c .climbed k) (c .long) z l₁ w₁ el ew);
     long = length-set above x 1 ∙ c .long;
   }
 
-  pub climbing-end : x ≡ 0 → (k : Climbable a parent place bl bw) → Marked (k .ground) a l w above
+  pub climbing-end : x ≡ 0 → (k : Climbable n a parent place bl bw) → Marked (k .ground) a l w above
   climbing-end e k = climbed-end (k .ground) (k .node) (c .climbed k) e

@@ -1,7 +1,9 @@
 -- The paths from one node to every node.
 use Prim.Native.Nat.{ℕ, _<_}
+use mathlib.Core.Path.{_≡_}
 use mathlib.Core.List.{List}
 use lib.IntN.{ℤ}
+use lib.ListN.{length}
 use Rattle.arrays.specs.Filled.{at}
 use Rattle.table.specs.Signed.{Diff}
 use Rattle.tree.specs.Value.{Value}
@@ -16,3 +18,9 @@ pub record Paths {n : ℕ} {parent order place bl bw : List ℕ} (g : Ground n p
 pub record Begun (n a : ℕ) (parent order place bl bw : List ℕ) : Type 0 where
   pub ground : Ground n parent order place bl bw
   pub node : a < n
+
+-- and of the arrays lent, before and after: each has its 4,096 places
+pub record Lent (above len wt : List ℕ) : Type 0 where
+  pub flags : length above ≡ 4096
+  pub lengths : length len ≡ 4096
+  pub weights : length wt ≡ 4096

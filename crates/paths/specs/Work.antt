@@ -11,6 +11,11 @@ use Rattle.tree.specs.Rooted.{Above}
 use Rattle.tree.specs.Value.{Value}
 use Rattle.paths.specs.Ground.{Ground}
 
+-- the first i flags of 4,096 are not set
+pub record Cleared (i : ℕ) (above : List ℕ) : Type 0 where
+  pub long : length above ≡ 4096
+  pub each : (t : ℕ) → t < i → at above t ≡ 0
+
 module _ {n : ℕ} {parent order place bl bw : List ℕ} (g : Ground n parent order place bl bw) (a : ℕ) where
   -- the path from a to x has length l and lifted weight w, and both are what i branches can have at the most
   pub record Far (x l w i : ℕ) : Type 0 where
@@ -39,14 +44,13 @@ module _ {n : ℕ} {parent order place bl bw : List ℕ} (g : Ground n parent or
     pub done : (j : ℕ) → j < i → Far (at order j) (at len (at order j)) (at wt (at order j)) (4096 + j)
 
 -- the climb, of any net of which it is asked
-pub record Climbable (a : ℕ) (parent place bl bw : List ℕ) : Type 0 where
-  pub n : ℕ
+pub record Climbable (n a : ℕ) (parent place bl bw : List ℕ) : Type 0 where
   pub order : List ℕ
   pub ground : Ground n parent order place bl bw
   pub node : a < n
 
-pub record Climbing (a : ℕ) (parent place bl bw : List ℕ) (x l w : ℕ) (above : List ℕ) : Type 0 where
-  pub climbed : (k : Climbable a parent place bl bw) → Climbed (k .ground) a x l w above
+pub record Climbing (n a : ℕ) (parent place bl bw : List ℕ) (x l w : ℕ) (above : List ℕ) : Type 0 where
+  pub climbed : (k : Climbable n a parent place bl bw) → Climbed (k .ground) a x l w above
   pub long : length above ≡ 4096
 
 -- the sweep, of any net of which it is asked

@@ -1,13 +1,27 @@
 // The lengths and the lifted weights of the paths from one node to every node: one climb from it to node 0, then one sweep over the order of the walk, each node's value from its parent's.
-ghost use Prim.Native.Nat.{_<_};
+ghost use Prim.Native.Nat.{_≤_};
+ghost use mathlib.Core.Path.{_≡_};
+ghost use lib.ListN.{length};
 ghost use Rattle.paths.specs.Ground.{Ground};
-ghost use Rattle.paths.specs.Paths.{Paths, Begun};
-ghost use Rattle.paths.specs.Work.{Climbable, Marked, Sweepable, Sweeping, Steps, Stepped};
+ghost use Rattle.paths.specs.Paths.{Paths, Begun, Lent};
+ghost use Rattle.paths.specs.Work.{Cleared, Climbable, Marked, Sweepable, Sweeping, Steps, Stepped};
 
 // The length of a path and its weight, lifted by 2^33.
 struct Far {
     length: u64,
     weight: u64,
+}
+
+// No flag of the n nodes is set. The places past them are left: who sweeps from many nodes of a small net would pay for all 4,096 each time.
+fn clear(above: &mut [u16; 4096], n: usize)
+    requires { ⌜ (n ≤ 4096) × (length (now above) ≡ 4096) ⌝ }
+    ensures { λ _. ⌜ Cleared n (now (above .exit)) ⌝ }
+{
+    let mut i: usize = 0;
+    while i < n {
+        above[i] = 0;
+        i += 1;
+    }
 }
 
 // The path from a to node 0. Marks the nodes on it: a and those above it.
@@ -16,13 +30,14 @@ fn climb(
     place: &[u16; 4096],
     bl: &[u64; 4096],
     bw: &[u64; 4096],
+    n: usize,
     a: usize,
     above: &mut [u16; 4096],
 ) -> Far
-    requires { ⌜ Climbable a (now parent) (now place) (now bl) (now bw) ⌝ }
-    ensures { λ r. ⌜ ((k : Climbable a (now (parent .entry)) (now (place .entry)) (now (bl .entry)) (now (bw .entry))) → Marked (k .ground) a (r .length) (r .weight) (now (above .exit))) ⌝ }
+    requires { ⌜ Climbable n a (now parent) (now place) (now bl) (now bw) × (length (now above) ≡ 4096) ⌝ }
+    ensures { λ r. ⌜ ((k : Climbable n a (now (parent .entry)) (now (place .entry)) (now (bl .entry)) (now (bw .entry))) → Marked (k .ground) a (r .length) (r .weight) (now (above .exit))) × (length (now (above .exit)) ≡ 4096) ⌝ }
 {
-    arrays::fill(above, 0);
+    clear(above, n);
     let mut x = a;
     let mut l: u64 = 0;
     let mut w: u64 = 8589934592;
@@ -69,11 +84,9 @@ fn sweep(
     len: &mut [u64; 4096],
     wt: &mut [u64; 4096],
 )
-    requires { ⌜ Sweepable n a l w (now parent) (now order) (now bl) (now bw) (now above) ⌝ }
+    requires { ⌜ Sweepable n a l w (now parent) (now order) (now bl) (now bw) (now above) × (length (now len) ≡ 4096) × (length (now wt) ≡ 4096) ⌝ }
     ensures { λ _. ⌜ Sweeping n a l w (now (parent .entry)) (now (order .entry)) (now (bl .entry)) (now (bw .entry)) (now (above .entry)) n (now (len .exit)) (now (wt .exit)) ⌝ }
 {
-    arrays::fill_long(len, 0);
-    arrays::fill_long(wt, 0);
     len[0] = l;
     wt[0] = w;
     let mut i: usize = 1;
@@ -104,10 +117,10 @@ pub fn paths_from(
     len: &mut [u64; 4096],
     wt: &mut [u64; 4096],
 )
-    requires { ⌜ Begun n a (now parent) (now order) (now place) (now bl) (now bw) ⌝ }
-    ensures { λ _. ⌜ ((g : Ground n (now (parent .entry)) (now (order .entry)) (now (place .entry)) (now (bl .entry)) (now (bw .entry))) → Paths g a (now (len .exit)) (now (wt .exit))) ⌝ }
+    requires { ⌜ Begun n a (now parent) (now order) (now place) (now bl) (now bw) × Lent (now above) (now len) (now wt) ⌝ }
+    ensures { λ _. ⌜ ((g : Ground n (now (parent .entry)) (now (order .entry)) (now (place .entry)) (now (bl .entry)) (now (bw .entry))) → Paths g a (now (len .exit)) (now (wt .exit))) × Lent (now (above .exit)) (now (len .exit)) (now (wt .exit)) ⌝ }
 {
-    let r = climb(parent, place, bl, bw, a, above);
+    let r = climb(parent, place, bl, bw, n, a, above);
     let l = r.length;
     let w = r.weight;
     sweep(parent, order, bl, bw, above, n, a, l, w, len, wt);

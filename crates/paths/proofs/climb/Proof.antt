@@ -10,16 +10,16 @@ use Rattle.paths.proofs.climb.Statement.{statement}
 use Rattle.paths.proofs.climb.Tie as tie
 
 abbrev Inv-loop : tie.InvT-loop
-Inv-loop parent place bl bw a above₀ x₀ l₀ w₀ above x l w = Climbing a parent place bl bw x l w above × Climbable a parent place bl bw × (x < 4096)
+Inv-loop parent place bl bw n a above₀ x₀ l₀ w₀ above x l w = Climbing n a parent place bl bw x l w above × Climbable n a parent place bl bw × (x < 4096)
 
 abbrev μ-loop : tie.MeasureT-loop
-μ-loop parent place bl bw a above₀ x₀ l₀ w₀ above x l w = at place x
+μ-loop parent place bl bw n a above₀ x₀ l₀ w₀ above x l w = at place x
 
-fill-requires : tie.Need-fill-requires Inv-loop μ-loop
-fill-requires c κs = search needs
+clear-requires : tie.Need-clear-requires Inv-loop μ-loop
+clear-requires c κs = (c .before .pre .0 .ground .grown .some .1, c .before .pre .1)
 
 loop-holds : tie.Need-loop-holds Inv-loop μ-loop
-loop-holds c = let h = climbing-start (c .fill .ensures) in (h, c .before .before .pre, climb-node h (c .before .before .pre))
+loop-holds c = let h = climbing-start (c .clear .ensures) in (h, c .before .before .pre .0, climb-node h (c .before .before .pre .0))
 
 mul-above : tie.Need-mul-above Inv-loop μ-loop
 mul-above c = omega arith
@@ -66,7 +66,7 @@ loop-again c =
     (h, c .before .before .before .before .before .loop .inv .1, climb-node h (c .before .before .before .before .before .loop .inv .1))
 
 returns : tie.Need-returns Inv-loop μ-loop
-returns c = climbing-end (c .before .loop .inv .0) (c .loop-test .left)
+returns c = (climbing-end (c .before .loop .inv .0) (c .loop-test .left), c .before .loop .inv .0 .long)
 
 pub climb-spec : {M : Type 1} → statement M
 climb-spec =
@@ -74,7 +74,7 @@ climb-spec =
     (tie.spec
     Inv-loop
     μ-loop
-    fill-requires
+    clear-requires
     loop-holds
     mul-above
     element-write-above

@@ -5,13 +5,16 @@ use Rattle.paths.proofs.paths_from.Statement.{statement}
 use Rattle.paths.proofs.paths_from.Tie as tie
 
 climb-requires : tie.Need-climb-requires
-climb-requires c κs = climbable (c .before .pre .ground) (c .before .pre .node)
+climb-requires c κs = (climbable (c .before .pre .0 .ground) (c .before .pre .0 .node), c .before .pre .1 .flags)
 
 sweep-requires : tie.Need-sweep-requires
-sweep-requires c κs = record { place = _; ground = c .before .before .before .before .before .pre .ground; node = c .before .before .before .before .before .pre .node; marked = c .before .before .before .climb .ensures (climbable (c .before .before .before .before .before .pre .ground) (c .before .before .before .before .before .pre .node)) }
+sweep-requires c κs = (record { place = _; ground = c .before .before .before .before .before .pre .0 .ground; node = c .before .before .before .before .before .pre .0 .node; marked = c .before .before .before .climb .ensures .0 (climbable (c .before .before .before .before .before .pre .0 .ground) (c .before .before .before .before .before .pre .0 .node)) }, c .before .before .before .before .before .pre .1 .lengths, c .before .before .before .before .before .pre .1 .weights)
 
 returns : tie.Need-returns
-returns c = λ g. sweeping-paths (c .sweep .ensures) (record { place = _; ground = g; node = c .before .before .before .before .before .before .pre .node; marked = c .before .before .before .before .climb .ensures (climbable g (c .before .before .before .before .before .before .pre .node)) })
+returns c = (
+  λ g. sweeping-paths (c .sweep .ensures) (record { place = _; ground = g; node = c .before .before .before .before .before .before .pre .0 .node; marked = c .before .before .before .before .climb .ensures .0 (climbable g (c .before .before .before .before .before .before .pre .0 .node)) }),
+  record { flags = c .before .before .before .before .climb .ensures .1; lengths = c .sweep .ensures .len-long; weights = c .sweep .ensures .wt-long },
+)
 
 pub paths-from-spec : {M : Type 1} → statement M
 paths-from-spec = tie.close (tie.spec climb-requires sweep-requires returns)

@@ -14,12 +14,6 @@ Inv-loop parent order bl bw above n a l w len₀ wt₀ i₀ len wt i = Sweeping 
 abbrev μ-loop : tie.MeasureT-loop
 μ-loop parent order bl bw above n a l w len₀ wt₀ i₀ len wt i = n - i
 
-fill-long-requires : tie.Need-fill-long-requires Inv-loop μ-loop
-fill-long-requires c κs = search needs
-
-fill-long-requires-2 : tie.Need-fill-long-requires-2 Inv-loop μ-loop
-fill-long-requires-2 c κs = search needs
-
 element-write-len : tie.Need-element-write-len Inv-loop μ-loop
 element-write-len c = omega arith
 
@@ -27,7 +21,7 @@ element-write-wt : tie.Need-element-write-wt Inv-loop μ-loop
 element-write-wt c = omega arith
 
 loop-holds : tie.Need-loop-holds Inv-loop μ-loop
-loop-holds c = (sweeping-one (c .before .before .fill-long .last .0) (c .fill-long2 .last .0) (c .before .before .fill-long .ensures .long) (c .fill-long2 .ensures .long), c .before .before .before .before .pre, omega arith)
+loop-holds c = (sweeping-one (c .args .len .now) (c .args .wt .now) (c .pre .1) (c .pre .2), c .pre .0, omega arith)
 
 mul-wide : tie.Need-mul-wide Inv-loop μ-loop
 mul-wide c = omega arith
@@ -110,8 +104,6 @@ sweep-spec =
     (tie.spec
     Inv-loop
     μ-loop
-    fill-long-requires
-    fill-long-requires-2
     element-write-len
     element-write-wt
     loop-holds

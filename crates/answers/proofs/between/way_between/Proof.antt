@@ -1,10 +1,11 @@
 -- `way_between` meets its contract: of the paths from x, the one to y.
 use borrow.Author.Needs.{needs}
+use Rattle.paths.proofs.Fresh.{fresh}
 use Rattle.answers.proofs.between.way_between.Statement.{statement}
 use Rattle.answers.proofs.between.way_between.Tie as tie
 
 paths-from-requires : tie.Need-paths-from-requires
-paths-from-requires c κs = search needs
+paths-from-requires c κs = (c .before .before .before .pre .0, fresh)
 
 mul-length : tie.Need-mul-length
 mul-length c = search needs
@@ -19,7 +20,7 @@ array-read-weight : tie.Need-array-read-weight
 array-read-weight c = search needs
 
 returns : tie.Need-returns
-returns c = λ g. let p = c .paths-from .ensures g in record { value = λ w d. p .value _ (c .before .before .before .before .pre .1) w d; small = p .small _ (c .before .before .before .before .pre .1) }
+returns c = λ g. let p = c .paths-from .ensures .0 g in record { value = λ w d. p .value _ (c .before .before .before .before .pre .1) w d; small = p .small _ (c .before .before .before .before .pre .1) }
 
 pub way-between-spec : {M : Type 1} → statement M
 way-between-spec =

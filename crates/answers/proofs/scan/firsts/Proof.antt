@@ -7,13 +7,15 @@ use mir.Syntax.{w64}
 use mir.Val.{toZ}
 use mir.ValLaws.{toZ-ofZ}
 use Rattle.paths.specs.Ground.{Ground}
+use Rattle.paths.specs.Paths.{Lent}
+use Rattle.paths.proofs.Fresh.{fresh}
 use Rattle.answers.proofs.Scanning.{Scanning, scanning-start, scanning-ready, scanning-next, scanning-end}
 use Rattle.answers.proofs.scan.firsts.Statement.{statement}
 use Rattle.answers.proofs.scan.firsts.Tie as tie
 
 abbrev Inv-loop : tie.InvT-loop
 Inv-loop parent order place bl bw n bound floor low high rows₀ above₀ len₀ wt₀ room f k₀ u₀ rows above len wt k u =
-    Scanning n parent order place bl bw (λ l. l ≤ bound) (toZ w64 floor) low high rows₀ room f u (k .given) (k .left) rows × Ground n parent order place bl bw
+    Scanning n parent order place bl bw (λ l. l ≤ bound) (toZ w64 floor) low high rows₀ room f u (k .given) (k .left) rows × Ground n parent order place bl bw × Lent above len wt
 
 abbrev μ-loop : tie.MeasureT-loop
 μ-loop parent order place bl bw n bound floor low high rows₀ above₀ len₀ wt₀ room f k₀ u₀ rows above len wt k u =
@@ -23,25 +25,25 @@ raised-requires : tie.Need-raised-requires Inv-loop μ-loop
 raised-requires c κs = search needs
 
 loop-holds : tie.Need-loop-holds Inv-loop μ-loop
-loop-holds c = (scanning-start refl (c .raised .ensures), c .before .before .pre)
+loop-holds c = (scanning-start refl (c .raised .ensures), c .before .before .pre, fresh)
 
 paths-from-requires : tie.Need-paths-from-requires Inv-loop μ-loop
-paths-from-requires c κs = record { ground = c .before .before .before .before .loop .inv .1; node = c .before .before .before .loop-test .taken }
+paths-from-requires c κs = (record { ground = c .before .before .before .before .loop .inv .1; node = c .before .before .before .loop-test .taken }, c .before .before .before .before .loop .inv .2)
 
 first-second-requires : tie.Need-first-second-requires Inv-loop μ-loop
 first-second-requires c κs = search needs
 
 seconds-requires : tie.Need-seconds-requires Inv-loop μ-loop
-seconds-requires c κs = scanning-ready (c .before .before .before .before .before .before .before .before .before .loop .inv .0) (c .before .before .before .before .before .before .before .before .before .loop .inv .1) (c .before .before .before .before .before .before .before .before .loop-test .taken) (c .before .before .before .before .paths-from .ensures (c .before .before .before .before .before .before .before .before .before .loop .inv .1)) (c .before .before .before .first-second .ensures)
+seconds-requires c κs = scanning-ready (c .before .before .before .before .before .before .before .before .before .loop .inv .0) (c .before .before .before .before .before .before .before .before .before .loop .inv .1) (c .before .before .before .before .before .before .before .before .loop-test .taken) (c .before .before .before .before .paths-from .ensures .0 (c .before .before .before .before .before .before .before .before .before .loop .inv .1)) (c .before .before .before .first-second .ensures)
 
 add-u : tie.Need-add-u Inv-loop μ-loop
-add-u c = omega arith
+add-u c = omega (arith, c .before .before .before .before .before .before .before .before .before .before .before .loop-test .taken, c .before .before .before .before .before .before .before .before .before .before .before .before .loop .inv .1 .grown .some .1)
 
 loop-less : tie.Need-loop-less Inv-loop μ-loop
-loop-less c = omega arith
+loop-less c = omega (arith, c .before .before .before .before .before .before .before .before .before .before .before .loop-test .taken)
 
 loop-again : tie.Need-loop-again Inv-loop μ-loop
-loop-again c = (scanning-next (c .before .before .before .before .before .before .before .before .before .before .before .before .loop .inv .0) (c .before .before .before .before .before .before .before .before .before .before .before .loop-test .taken) (c .before .before .before .before .before .before .before .before .before .before .before .before .loop .inv .1 .grown .some .1) (c .before .before .before .before .before .before .before .paths-from .ensures) (c .before .before .before .before .before .before .first-second .ensures) (c .before .before .seconds .ensures), c .before .before .before .before .before .before .before .before .before .before .before .before .loop .inv .1)
+loop-again c = (scanning-next (c .before .before .before .before .before .before .before .before .before .before .before .before .loop .inv .0) (c .before .before .before .before .before .before .before .before .before .before .before .loop-test .taken) (c .before .before .before .before .before .before .before .before .before .before .before .before .loop .inv .1 .grown .some .1) (c .before .before .before .before .before .before .before .paths-from .ensures .0) (c .before .before .before .before .before .before .first-second .ensures) (c .before .before .seconds .ensures), c .before .before .before .before .before .before .before .before .before .before .before .before .loop .inv .1, c .before .before .before .before .before .before .before .paths-from .ensures .1)
 
 same-length : tie.Need-same-length Inv-loop μ-loop
 same-length c = c .before .loop .inv .0 .same
