@@ -30,6 +30,7 @@ flip marks marks′ h r = (h r .1, h r .0)
 lists-alike : (s marks marks′ : List ℕ) → Alike marks marks′ → (Within : ℕ → Type 0) (floor : ℤ) (n low high : ℕ) (old : List ℕ) {x : Outcome}
     → Lists (Qualifies (PathOf s marks n) Within floor n) low high old x → Lists (Qualifies (PathOf s marks′ n) Within floor n) low high old x
 lists-alike s marks marks′ h Within floor n low high old p = record {
+  taken = p .taken;
   number = p .number;
   row = p .row;
   page = record { some = p .page .some; page = page-iff (qualifies-alike s marks marks′ h n) (qualifies-alike s marks′ marks (flip marks marks′ h) n) (p .page .page); count = p .page .count; bytes = p .page .bytes };

@@ -21,7 +21,8 @@ lists-only P low high old x y a b =
     let e = paged-only (a .page) (b .page) in
     let n : x .number ≡ y .number = a .number ∙ sym (b .number) in
     let r : x .row ≡ y .row = a .row ∙ sym (b .row) in
-    λ i. record { number = n i; row = r i; written = e .0 i; left = e .1 i; bytes = e .2 i }
+    let t : x .refused ≡ y .refused = a .taken ∙ sym (b .taken) in
+    λ i. record { refused = t i; number = n i; row = r i; written = e .0 i; left = e .1 i; bytes = e .2 i }
 
 pub listing-within-only : (Within : ℕ → Type 0) (s marks : List ℕ) (floor : ℤ) (low high : ℕ) (old : List ℕ) → Only (ListingWithin Within s marks floor low high old)
 listing-within-only Within s marks floor low high old = begins-only (refusal old) s (unless-only (unless-only (lists-only _ low high old)))

@@ -1,6 +1,7 @@
 -- The operation listing: refusals 1 to 12, then 13 and 17; then the page.
 use Prim.Native.Nat.{ℕ, _-_, _≤_}
 use mathlib.Core.Path.{_≡_}
+use mathlib.Core.Bool.{Bool, true, false}
 use mathlib.Core.List.{List}
 use lib.IntN.{ℤ}
 use lib.ListN.{length}
@@ -14,24 +15,26 @@ use Rattle.answers.specs.PathOf.{PathOf}
 use Rattle.answers.specs.declared.Listed.{Listed}
 use Rattle.answers.specs.declared.Listed.the-variants.{Rows, Refused}
 
--- all that a call leaves: the paper's number and row, rows written and left over, and the lent bytes
+-- all that a call leaves: whether it was refused, the paper's number and row, rows written and left over, and the lent bytes
 pub record Outcome : Type 0 where
+  pub refused : Bool
   pub number : ℕ
   pub row : ℕ
   pub written : ℕ
   pub left : ℕ
   pub bytes : List ℕ
 
-abbrev pub outcome : Listed → List ℕ → Outcome
-outcome (Rows w l) now = record { number = 0; row = 0; written = w; left = l; bytes = now }
-outcome (Refused r) now = record { number = r .number; row = r .row; written = 0; left = 0; bytes = now }
-
 -- a refusal leaves the lent bytes as they were
 abbrev pub refusal : List ℕ → ℕ → ℕ → Outcome
-refusal old k r = record { number = k; row = r; written = 0; left = 0; bytes = old }
+refusal old k r = record { refused = true; number = k; row = r; written = 0; left = 0; bytes = old }
 
--- a page of what qualifies, from the starting pair on
+abbrev pub outcome : Listed → List ℕ → Outcome
+outcome (Rows w l) now = record { refused = false; number = 0; row = 0; written = w; left = l; bytes = now }
+outcome (Refused r) now = refusal now (r .number) (r .row)
+
+-- a page of what qualifies, from the starting pair on; an empty page is no refusal
 pub record Lists (P : Entry → Type 0) (low high : ℕ) (old : List ℕ) (o : Outcome) : Type 0 where
+  pub taken : o .refused ≡ false
   pub number : o .number ≡ 0
   pub row : o .row ≡ 0
   pub page : Paged P low high old (o .written) (o .left) (o .bytes)

@@ -62,8 +62,7 @@ fn go_on(
         return Listed::Refused(Refusal { number: 17, row: 0 });
     }
     let k = scan::page(s, marks, nodes, bound, floor, low, high, rows);
-    Listed::Rows {
-        written: k.given,
-        left: k.left,
-    }
+    let written = k.given;
+    let left = k.left;
+    Listed::Rows { written, left }
 }

@@ -16,7 +16,7 @@ use Rattle.pages.specs.Page.{Following}
 use Rattle.pages.specs.Bytes.{rows}
 use Rattle.answers.specs.PathOf.{PathOf}
 use Rattle.answers.specs.Listing.{Outcome, refusal, ListingOf}
-use Rattle.worked.proofs.Tests.{either, every, every-passed, same, same-is}
+use Rattle.worked.proofs.Tests.{either, is-false, every, every-passed, same, same-is}
 use Rattle.worked.proofs.Accepted.{accepted?, begins}
 use Rattle.worked.proofs.Pairs.{of, ways?, Wanted, wanted?, is-wanted, all-pairs, all-wanted}
 use Rattle.worked.proofs.Entries.{after?, is-after, after-test, each, each-in, has-entry, has-entry-in, rising?, is-rising}
@@ -52,7 +52,7 @@ module _ (way : ℕ → ℕ → List ℕ) (s marks : List ℕ) (floor : ℤ) (lo
   tests =
       accepted? s ∷ eqb (length marks) (nodesOf s - 1) ∷ ways? s marks way ∷ leb 16 (length lent)
       ∷ rising? gathered ∷ each (wanted? s marks way short (leZ floor)) gathered ∷ each (after? low high) gathered ∷ all-pairs s marks way short (leZ floor) listed
-      ∷ eqb (o .number) 0 ∷ eqb (o .row) 0 ∷ eqb (o .written) (length given) ∷ eqb (length given + o .left) (length gathered) ∷ same (o .bytes) (rows given ++ drop (16 * o .written) lent) ∷ []
+      ∷ not (o .refused) ∷ eqb (o .number) 0 ∷ eqb (o .row) 0 ∷ eqb (o .written) (length given) ∷ eqb (length given + o .left) (length gathered) ∷ same (o .bytes) (rows given ++ drop (16 * o .written) lent) ∷ []
 
   unfoldable pub listing? : Bool
   listing? = every tests
@@ -71,8 +71,10 @@ module _ (way : ℕ → ℕ → List ℕ) (s marks : List ℕ) (floor : ℤ) (lo
   is-listing t =
       let p = every-passed tests t in
       let q = p .1 .1 .1 .1 in
-      let r = q .1 .1 .1 .1 in
+      let refused = q .1 .1 .1 .1 .0 in
+      let r = q .1 .1 .1 .1 .1 in
       begins s (p .0) (refusal lent) (passed (eqb→eq _ _ (p .1 .0)) (passed (leb→le _ _ (p .1 .1 .1 .0)) (record {
+        taken = is-false (o .refused) refused;
         number = eqb→eq _ _ (r .0);
         row = eqb→eq _ _ (r .1 .0);
         page = record {

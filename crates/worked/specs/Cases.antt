@@ -1,5 +1,6 @@
 -- The starred cases of document 01: the small net N5 under several bounds, what is asked of it, and the answers.
 use Prim.Native.Nat.{ℕ}
+use mathlib.Core.Bool.{false}
 use mathlib.Core.List.{List, [], _∷_, _++_}
 use lib.IntN.{pos, negsuc}
 use Rattle.pages.specs.Listing.{entry}
@@ -45,8 +46,8 @@ cases =
     ∷ heaviest (n5 10) free (H.found (entry 0 3 10 (pos 12)))
     ∷ heaviest (n5 2) free (H.found (entry 3 4 2 (negsuc 2)))
     ∷ heaviest (n5 1) free (H.refusal 16 0)
-    ∷ listing (n5 9) free (pos 7) 0 0 (lent ++ lent ++ lent ++ lent) (record { number = 0; row = 0; written = 3; left = 0; bytes = three ++ lent })
-    ∷ listing (n5 9) free (pos 10) 0 0 lent (record { number = 0; row = 0; written = 0; left = 0; bytes = lent })
+    ∷ listing (n5 9) free (pos 7) 0 0 (lent ++ lent ++ lent ++ lent) (record { refused = false; number = 0; row = 0; written = 3; left = 0; bytes = three ++ lent })
+    ∷ listing (n5 9) free (pos 10) 0 0 lent (record { refused = false; number = 0; row = 0; written = 0; left = 0; bytes = lent })
     ∷ heads (n5 9) (9 ∷ 9 ∷ 9 ∷ 9 ∷ 9 ∷ []) (record { number = 0; row = 0; list = 0 ∷ 0 ∷ 0 ∷ 3 ∷ 3 ∷ [] })
     ∷ leaves (n5 9) (2 ∷ 4 ∷ [])
     ∷ pair (n5 9) free 2 4 (record { number = 0; row = 0; length = 11; weight = pos 6; hops = 2 })

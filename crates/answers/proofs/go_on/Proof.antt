@@ -29,7 +29,7 @@ same-length c = search needs
 returns-3 : tie.Need-returns-3
 returns-3 c =
     let e = toZ-ofZ w64 (c .before .before .before .before .before .before .before .before .before .before .args .floor) (c .before .before .before .before .before .before .before .before .before .before .fits .floor) in
-    passed (omega (arith, c .before .before .before .before .before .before .wide .ensures)) (passed (omega arith) (record { number = refl; row = refl; page = rw e at (c .before .before .page .ensures) }))
+    passed (omega (arith, c .before .before .before .before .before .before .wide .ensures)) (passed (omega arith) (record { taken = refl; number = refl; row = refl; page = rw e at (c .before .before .page .ensures) }))
 
 pub go-on-spec : {M : Type 1} → statement M
 go-on-spec =
