@@ -1,12 +1,12 @@
 -- What a table that passed has, for this crate and those above: an opened header's facts, an accepted table's facts, and how an operation that begins
--- with `examine` hands a refusal on or goes on where there is none.
-use mathlib.Core.Path.{_≡_, refl, ap}
+-- with `examine` goes on where nothing is refused.
+use mathlib.Core.Path.{_≡_, refl, sym, ap, _∙_}
 use mathlib.Core.List.{List, [], _∷_}
 use Prim.Native.Nat.{ℕ, _+_, _-_, _*_, _≤_, _<_}
 use native.Mathlib.Omega.{arith}
 use lib.ListN.{length, take}
 use native.Mathlib.Nat.{sub-zero}
-use Rattle.table.specs.Refuse.{passed, fine}
+use Rattle.table.specs.Refuse.{passed, fine, Only}
 use Rattle.table.specs.Bytes.{byteAt}
 use Rattle.table.specs.Signed.{Within}
 use Rattle.table.specs.Header.{Header, Lettered, versionOf, nodesOf, boundOf}
@@ -16,7 +16,7 @@ use Rattle.table.specs.Outcome.{Outcome, outcome, refusal, found, Opens,
 use Rattle.table.specs.declared.Row.{Row}
 use Rattle.table.specs.declared.Refusal.{Refusal}
 use Rattle.table.specs.declared.Opening.the-variants.{Opened, Refused}
-use Rattle.table.proofs.Refusals.{past, past-rows, unless-map, first-bad-map}
+use Rattle.table.proofs.Refusals.{past, past-rows, settled, settled-rows, unless-only, unless-map, first-bad-map}
 
 -- what a header that is not refused has
 pub record Headed (s : List ℕ) : Type 0 where
@@ -58,6 +58,10 @@ module _ {A : Type 0} (refusal : ℕ → ℕ → A) {s : List ℕ} {rest : A →
       let e = past (n 5 0 (λ e. omega arith)) (d .1) in
       let f = past (n 6 0 (λ e. omega arith)) (e .1) in
       (record { long = a .0; letters = b .0; version = c .0; some = d .0 .0; few = d .0 .1; reserved = e .0; size = f .0 }, f .1)
+
+  -- a good header refuses nothing
+  pub header-rest : Headed s → Header A refusal s rest x → rest x
+  header-rest h p = settled (h .size) (settled (h .reserved) (settled (h .some, h .few) (settled (h .version) (settled (h .letters) (settled (h .long) p)))))
 
 -- a refusal of the header stays one in another type of outcome, whatever follows there
 pub header-map : {A B : Type 0} (f : A → B) (refusal : ℕ → ℕ → A) (s : List ℕ) {rest : A → Type 0} {rest′ : B → Type 0} {x : A}
@@ -110,15 +114,18 @@ accepted s n b p =
       rows = λ r l. rw e (good (nodesOf s) (rowAt s r) (q .0 r (omega arith)));
     }
 
--- how an operation that begins with `examine` hands a refusal on
-pub refused-on : {A : Type 0} (refuse : ℕ → ℕ → A) {rest : A → Type 0} (s : List ℕ) (w : Refusal) → Examines s (outcome (Refused w)) → Tested A refuse s rest (refuse (w .number) (w .row))
-refused-on refuse s w p = tested-map (λ o. refuse (o .number) (o .row)) refusal s (λ h e. absurd (nothing-found s h e)) p
-
--- and goes on where there is none
+-- how an operation that begins with `examine` goes on where nothing is refused
 pub passed-on : {A : Type 0} (refuse : ℕ → ℕ → A) {rest : A → Type 0} (s : List ℕ) (n b : ℕ) {x : A} → Examines s (outcome (Opened n b)) → rest x → Tested A refuse s rest x
 passed-on refuse s n b p r =
     let h = header-past refusal (λ k r. not-refused) p in
     past-header refuse {s = s} (h .0) (fine (past-rows (λ k r. not-refused) (h .1) .0) r)
+
+pub row-number-only : (n : ℕ) (q : Row) → Only (RowNumber n q)
+row-number-only n q = unless-only (unless-only (unless-only (unless-only (λ x y p r. p ∙ sym r))))
+
+-- where 1 to 10 refuse nothing, an outcome is as the rest says
+pub tested-rest : {A : Type 0} (refuse : ℕ → ℕ → A) (s : List ℕ) {rest : A → Type 0} {x : A} → Headed s → ((i : ℕ) → i < nodesOf s - 1 → RowNumber (nodesOf s) (rowAt s i) 0) → Tested A refuse s rest x → rest x
+tested-rest refuse s h rows p = settled-rows (λ i. row-number-only (nodesOf s) (rowAt s i)) rows (header-rest refuse h p)
 
 -- how a function that begins with `open_table` hands a refusal on
 pub refused-header : {A : Type 0} (refuse : ℕ → ℕ → A) {rest : A → Type 0} (s : List ℕ) (w : Refusal) → Opens s (outcome (Refused w)) → Header A refuse s rest (refuse (w .number) (w .row))

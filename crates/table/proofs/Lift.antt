@@ -54,7 +54,3 @@ order-back (up m h) (up n k) o = record { le = le→leb m n (omega arith) }
 order-back (up m h) (down n k) o = absurd (omega arith)
 order-back (down m h) (up n k) o = record { le = tt }
 order-back (down m h) (down n k) o = record { le = le→leb n m (omega arith) }
-
--- a running sum goes on: X is 2^33 + W, a row's x is 1,000,000 + w
-pub step : {X x : ℕ} {W w : ℤ} → Diff X 8589934592 W → Diff x 1000000 w → 1000000 ≤ X + x → Diff (X + x - 1000000) 8589934592 (W +ℤ w)
-step p q h = same (omega arith) (sum p q)

@@ -18,13 +18,11 @@ use Rattle.table.specs.Examine.{RowNumber, Tested}
 use Rattle.table.specs.Outcome.{refusal, Opens, Examines}
 use Rattle.table.specs.declared.Row.{Row}
 use Rattle.table.proofs.Refusals.{unless-only, first-bad-only}
+use Rattle.table.proofs.Accepted.{row-number-only}
 use Rattle.table.proofs.Lift.{diff-only, lift-only}
 
 pub header-only : {A : Type 0} (refusal : ℕ → ℕ → A) (s : List ℕ) {rest : A → Type 0} → Only rest → Only (Header A refusal s rest)
 header-only refusal s o = unless-only (unless-only (unless-only (unless-only (unless-only (unless-only o)))))
-
-row-number-only : (n : ℕ) (q : Row) → Only (RowNumber n q)
-row-number-only n q = unless-only (unless-only (unless-only (unless-only (λ x y p r. p ∙ sym r))))
 
 pub tested-only : {A : Type 0} (refusal : ℕ → ℕ → A) (s : List ℕ) {rest : A → Type 0} → Only rest → Only (Tested A refusal s rest)
 tested-only refusal s o = header-only refusal s (first-bad-only (λ i. row-number-only (nodesOf s) (rowAt s i)) o)

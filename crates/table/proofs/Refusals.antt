@@ -18,10 +18,10 @@ module _ {A : Type 0} {no : A} {Ok : Type 0} {rest : A → Type 0} where
   past n (refused c) = absurd (n refl)
   past n (passed k p) = (k, p)
 
-  -- one that cannot be as the rest says is the refusal
-  pub is-refused : {x : A} → (Ok → rest x → ⊥) → Unless A no Ok rest x → (Ok → ⊥) × (no ≡ x)
-  is-refused n (refused c) = (c, refl)
-  is-refused n (passed k p) = absurd (n k p)
+  -- what is good refuses nothing
+  pub settled : {x : A} → Ok → Unless A no Ok rest x → rest x
+  settled k (refused c) = absurd (c k)
+  settled k (passed o p) = p
 
 pub unless-map : {A B : Type 0} (f : A → B) {no : A} {Ok : Type 0} {rest : A → Type 0} {rest′ : B → Type 0} {x : A}
     → (Ok → rest x → rest′ (f x)) → Unless A no Ok rest x → Unless B (f no) Ok rest′ (f x)
@@ -44,6 +44,11 @@ module _ {A : Type 0} {refusal : ℕ → ℕ → A} {m : ℕ} {Number : ℕ → 
   pub past-rows : {x : A} → ((k r : ℕ) → (k ≡ 0 → ⊥) → refusal k r ≡ x → ⊥) → FirstBad A refusal m Number rest x → ((i : ℕ) → i < m → Number i 0) × rest x
   past-rows n (bad r k l before is not) = absurd (n k r not refl)
   past-rows n (fine all p) = (all, p)
+
+  -- and good rows refuse nothing
+  pub settled-rows : {x : A} → ((i : ℕ) → Only (Number i)) → ((i : ℕ) → i < m → Number i 0) → FirstBad A refusal m Number rest x → rest x
+  settled-rows one all (bad r k l before is not) = absurd (not (one r k 0 is (all r l)))
+  settled-rows one all (fine o p) = p
 
 pub first-bad-map : {A B : Type 0} (f : A → B) {refusal : ℕ → ℕ → A} {m : ℕ} {Number : ℕ → ℕ → Type 0} {rest : A → Type 0} {rest′ : B → Type 0} {x : A}
     → (((i : ℕ) → i < m → Number i 0) → rest x → rest′ (f x)) → FirstBad A refusal m Number rest x → FirstBad B (λ k r. f (refusal k r)) m Number rest′ (f x)

@@ -1,4 +1,4 @@
-// The branch table, version 1: bytes to header and rows. Refusals 1 to 10, the part of a row, a decoded row and its lifted weight.
+// The branch table, version 1: bytes to header and rows. Refusals 1 to 10, the part of a row, a decoded row and its lifted weight, and the reader that holds the table.
 // Every function takes any bytes and any number; none asks anything of its caller.
 ghost use mathlib.Core.Path.{_≡_};
 ghost use Prim.Native.Nat.{_+_, _*_, _≤_, _<_};

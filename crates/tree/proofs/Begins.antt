@@ -10,9 +10,9 @@ use Rattle.table.specs.Outcome.{Outcome, refusal, found, Examines}
 use Rattle.table.specs.Outcome as T
 use Rattle.table.specs.declared.Refusal.{Refusal}
 use Rattle.table.specs.declared.Opening.the-variants.{Opened}
-use Rattle.table.proofs.Refusals.{past, past-rows, unless-only, first-bad-only, unless-map, first-bad-map}
+use Rattle.table.proofs.Refusals.{past, past-rows, settled, settled-rows, unless-only, first-bad-only, unless-map, first-bad-map}
 use Rattle.table.specs.Row.{rowAt}
-use Rattle.table.proofs.Accepted.{Headed, Good, good, accepted, header-past, past-header, tested-map}
+use Rattle.table.proofs.Accepted.{Headed, Good, good, accepted, header-past, past-header, tested-map, tested-rest}
 use Rattle.table.proofs.Accepted as table
 use Rattle.table.proofs.Only.{tested-only}
 use Rattle.tree.specs.Net.{firstEnd, secondEnd, lengthOf, weightOf, Net}
@@ -122,6 +122,18 @@ module _ {A : Type 0} (refuse : ℕ → ℕ → A) {rest : A → Type 0} (s : Li
       let t = past-rows (λ k r. not-refused) (q .1) in
       let e = past (λ e. not-refused (λ z. omega (arith, z)) e) (t .1) in
       past-header refuse (h .0) (fine (q .0) (fine (t .0) (passed (e .0) r)))
+
+-- an accepted table's outcome is as the rest says
+pub begins-rest : {A : Type 0} (refuse : ℕ → ℕ → A) (s : List ℕ) {rest : A → Type 0} {x : A} → Accepts s (found (nodesOf s) (boundOf s)) → Begins A refuse s rest x → rest x
+begins-rest refuse s p q =
+    let h = header-past refusal {s = s} (λ k r. not-refused) p in
+    let t = past-rows (λ k r. not-refused) (h .1) in
+    let o = past-rows (λ k r. not-refused) (t .1) in
+    let e = past (λ e. not-refused (λ z. omega (arith, z)) e) (o .1) in
+    settled (e .0) (settled-rows ring-number-only (o .0) (tested-rest refuse s (h .0) (t .0) q))
+  where
+    ring-number-only : (i : ℕ) → Only (RingNumber s i)
+    ring-number-only i = unless-only (λ x y p q. p ∙ sym q)
 
 -- One outcome
 pub begins-only : {A : Type 0} (refuse : ℕ → ℕ → A) (s : List ℕ) {rest : A → Type 0} → Only rest → Only (Begins A refuse s rest)

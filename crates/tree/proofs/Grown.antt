@@ -63,8 +63,14 @@ module _ (us vs : ℕ → ℕ) (rows n m : ℕ) (parent half order place : List 
 
   placed : (i : ℕ) → i ≤ m → Count (λ x. (x < n) × J x × (at place x < i)) i
   placed zero l = count-none (λ x h. omega (arith, h .2))
-  placed (suc i) l = rw (one-add i) at (count-add {P = λ x. x ≡ at order i} {R = λ x. (x < n) × J x × (at place x < suc i)} (count-one (at order i) refl (λ y e. e)) (placed i (omega arith)) (λ x e h. omega (arith, h .2, w .back i (omega arith), ap (at place) e)) (λ x h. pick x h (ℕ-discrete (at place x) i)) (λ x e. rw e (node i (omega arith), w .joined i (omega arith), omega (arith, w .back i (omega arith)))) (λ x h. (h .0, h .1, omega (arith, h .2))))
+  placed (suc i) l = rw (one-add i) at (count-add {P = λ x. x ≡ at order i} {R = λ x. (x < n) × J x × (at place x < suc i)} (count-one (at order i) refl (λ y e. e)) (placed i (omega arith)) apart (λ x h. pick x h (ℕ-discrete (at place x) i)) last (λ x h. (h .0, h .1, omega (arith, h .2))))
     where
+      apart : (x : ℕ) → x ≡ at order i → (x < n) × J x × (at place x < i) → ⊥
+      apart x e h = omega (arith, h .2, w .back i (omega arith), ap (at place) e)
+
+      last : (x : ℕ) → x ≡ at order i → (x < n) × J x × (at place x < suc i)
+      last x e = (rw e (node i (omega arith)), rw e (w .joined i (omega arith)), omega (arith, w .back i (omega arith), ap (at place) e))
+
       pick : (x : ℕ) → (x < n) × J x × (at place x < suc i) → Dec (at place x ≡ i) → (x ≡ at order i) ⊎ ((x < n) × J x × (at place x < i))
       pick x h (yes e) = inl (sym (w .listed x (omega (arith, h .0)) (h .1) .1) ∙ ap (at order) e)
       pick x h (no q) = inr (h .0, h .1, omega (arith, h .2))

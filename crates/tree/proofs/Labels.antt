@@ -85,16 +85,13 @@ module _ (u v : ℕ → ℕ) where
   pub forest-zero : Forest u v 0
   forest-zero r h = absurd (not-suc-le-zero h)
 
-  -- one row more: where its ends have different labels there is still no ring, and where they have one label it closes one
+  -- one row more: where its ends have different labels there is still no ring
   pub forest-suc : (k : ℕ) → Forest u v k → label k (u k) ≢ label k (v k) → Forest u v (suc k)
   forest-suc k f n r h = pick (ℕ-discrete r k)
     where
       pick : Dec (r ≡ k) → ¬ Joined u v (First r) (u r) (v r)
       pick (yes e) = rw e (λ w. n (joined-label w))
       pick (no m) = f r (omega arith)
-
-  pub label-closes : (k r : ℕ) → r < k → label r (u r) ≡ label r (v r) → Closes u v k
-  label-closes k r h e = (r, h, label-joined r (u r) (v r) e)
 
   -- the test that computes
   unfoldable pub grows : ℕ → Bool

@@ -22,15 +22,6 @@ in? x (y ∷ l) = pick (ℕ-discrete x y) (in? x l)
     pick (no n) (yes h) = yes (past h)
     pick (no n) (no m) = no (neither n m)
 
-unfoldable pub distinct? : (l : List ℕ) → Dec (Distinct l)
-distinct? [] = yes tt
-distinct? (x ∷ l) = pick (in? x l) (distinct? l)
-  where
-    pick : Dec (In x l) → Dec (Distinct l) → Dec (Distinct (x ∷ l))
-    pick (yes h) d = no (λ t. t .0 h)
-    pick (no n) (yes d) = yes (n, d)
-    pick (no n) (no m) = no (λ t. m (t .1))
-
 -- two lists, one after the other
 pub in-left : {x : ℕ} {l : List ℕ} (m : List ℕ) → In x l → In x (l ++ m)
 in-left m (at e) = at e

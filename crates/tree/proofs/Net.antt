@@ -4,7 +4,7 @@ use mathlib.Core.Path.{_≡_, ap}
 use mathlib.Core.List.{List}
 use Rattle.table.specs.Row.{Stands, RowOf}
 use Rattle.table.specs.declared.Row.{Row}
-use Rattle.tree.specs.Net.{firstEnd, secondEnd, lengthOf, weightOf}
+use Rattle.tree.specs.Net.{firstEnd, secondEnd, lengthOf}
 
 module _ {s : List ℕ} {r : ℕ} {q : Row} (h : Stands s r) (o : RowOf s r q) where
   pub reads-first : q .a ≡ firstEnd s r
@@ -18,7 +18,3 @@ module _ {s : List ℕ} {r : ℕ} {q : Row} (h : Stands s r) (o : RowOf s r q) w
   pub reads-length : q .length ≡ lengthOf s r
   unfolding lengthOf
   reads-length = ap (λ q. q .length) (o .there h)
-
-  pub reads-weight : q .weight ≡ weightOf s r
-  unfolding weightOf
-  reads-weight = ap (λ q. q .weight) (o .there h)

@@ -34,12 +34,15 @@ module _ (u v : ℕ → ℕ) where
   abbrev pub Simple : (ℕ → Type 0) → ℕ → ℕ → Type 0
   Simple P a b = (rs : List ℕ) × (ns : List ℕ) × Walk P a rs ns b × Distinct (a ∷ ns)
 
-  -- among the first k rows is one whose ends earlier rows already join; or there is none
+  -- earlier rows already join the ends of row r; among the first k rows is such a one; or there is none
+  abbrev pub RingAt : ℕ → Type 0
+  RingAt r = Joined (First r) (u r) (v r)
+
   abbrev pub Closes : ℕ → Type 0
-  Closes k = (r : ℕ) × (r < k) × Joined (First r) (u r) (v r)
+  Closes k = (r : ℕ) × (r < k) × RingAt r
 
   abbrev pub Forest : ℕ → Type 0
-  Forest k = (r : ℕ) → r < k → ¬ Joined (First r) (u r) (v r)
+  Forest k = (r : ℕ) → r < k → ¬ RingAt r
 
   -- a closed walk along two or more different rows of the first k that meets no node twice before it closes
   pub record Ring (k : ℕ) : Type 0 where

@@ -1,4 +1,4 @@
--- The net that a table holds: the two ends of each row, its length and its weight. And what an accepted net has.
+-- The net that a table holds: the two ends of each row, its length and its weight. What an accepted net has; and what two nodes must be, where an operation takes two.
 use Prim.Native.Nat.{ℕ, _-_, _≤_, _<_}
 use mathlib.Core.Logic.{_≢_}
 use mathlib.Core.List.{List}
@@ -31,3 +31,9 @@ pub record Net (s : List ℕ) (n : ℕ) : Type 0 where
   pub within : (r : ℕ) → r < n - 1 → Within (weightOf s r)
   pub forest : Forest (firstEnd s) (secondEnd s) (n - 1)
   pub joined : (x : ℕ) → x < n → Joined (firstEnd s) (secondEnd s) (First (n - 1)) 0 x
+
+-- two different nodes of a net of n, else 15
+pub record TwoNodes (n a b : ℕ) : Type 0 where
+  pub first : a < n
+  pub second : b < n
+  pub apart : a ≢ b

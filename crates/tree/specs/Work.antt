@@ -7,7 +7,7 @@ use lib.ListN.{length, set}
 use Rattle.arrays.specs.Filled.{at}
 use Rattle.table.specs.Row.{Stands}
 use Rattle.tree.specs.Members.{In}
-use Rattle.tree.specs.Graph.{First, Joined, Forest}
+use Rattle.tree.specs.Graph.{RingAt, Forest}
 use Rattle.tree.specs.Net.{firstEnd, secondEnd}
 use Rattle.tree.specs.Half.{from}
 use Rattle.tree.specs.Walked.{Reached, High, Falls, Walked}
@@ -60,7 +60,7 @@ pub record Root (up : List ℕ) (x t : ℕ) : Type 0 where
 pub record FirstRing (us vs : ℕ → ℕ) (rows r : ℕ) : Type 0 where
   pub within : r ≤ rows
   pub forest : Forest us vs r
-  pub closes : r < rows → Joined us vs (First r) (us r) (vs r)
+  pub closes : r < rows → RingAt us vs r
 
 -- what linking two roots asks
 pub record Linkable (p q : ℕ) (rank : List ℕ) : Type 0 where

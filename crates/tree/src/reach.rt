@@ -133,7 +133,7 @@ pub(crate) fn reached(s: &[u8], rows: usize) -> usize
     requires { ⌜ Readable (now s) rows ⌝ }
     ensures { λ r. ⌜ Reaches (firstEnd (now (s .entry))) (secondEnd (now (s .entry))) rows r ⌝ }
 {
-    let mut parent: [u16; 4096] = [0; 4096];
+    let mut parent: [u16; 4096] = [4096; 4096];
     let mut half: [u16; 4096] = [0; 4096];
     let mut order: [u16; 4096] = [0; 4096];
     let mut place: [u16; 4096] = [0; 4096];
