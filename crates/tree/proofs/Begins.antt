@@ -15,9 +15,9 @@ use Rattle.table.specs.Row.{rowAt}
 use Rattle.table.proofs.Accepted.{Headed, Good, good, accepted, header-past, past-header, tested-map, tested-rest}
 use Rattle.table.proofs.Accepted as table
 use Rattle.table.proofs.Only.{tested-only}
-use Rattle.tree.specs.Net.{firstEnd, secondEnd, lengthOf, weightOf, Net}
+use Rattle.tree.specs.Net.{firstEnd, secondEnd, lengthOf, weightOf, Whole, Net}
 use Rattle.table.specs.Examine.{RowNumber}
-use Rattle.tree.specs.Accept.{RingNumber, Whole, Rings, Begins, outcome, Accepts}
+use Rattle.tree.specs.Accept.{RingNumber, Rings, Begins, outcome, Accepts}
 use Rattle.tree.specs.Work.{Readable, Fitting, FirstRing, Reaches}
 use Rattle.tree.specs.declared.Acceptance.the-variants as variants
 use Rattle.tree.proofs.Grown.{reached-all, all-joined}

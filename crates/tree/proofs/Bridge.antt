@@ -6,8 +6,8 @@ use mathlib.Core.List.{List}
 use native.Mathlib.Omega.{arith}
 use native.Mathlib.Nat.{not-suc-le-zero}
 use native.Mathlib.Decide.{ℕ-discrete}
-use Rattle.tree.specs.Graph.{First, But, End, Ends, Walk, stop, go, Joined, Closes}
-use Rattle.tree.proofs.Rows.{ends-flip, ends-left}
+use Rattle.tree.specs.Graph.{First, Ends, Walk, stop, go, Joined}
+use Rattle.tree.proofs.Rows.{But, End, Closes, ends-flip, ends-left}
 use Rattle.tree.proofs.Joined.{joined-refl, joined-step, joined-trans, joined-sym, joined-mono}
 
 module _ (u v : ℕ → ℕ) where

@@ -12,9 +12,10 @@ use Rattle.table.specs.Outcome.{Outcome, refusal, found, Examines}
 use Rattle.table.proofs.Refusals.{unless-only, past-rows}
 use Rattle.table.specs.Examine.{Tested}
 use Rattle.table.proofs.Accepted.{accepted, passed-on, header-past, tested-rest}
-use Rattle.tree.specs.Graph.{RingAt, Closes, Forest, Ring}
+use Rattle.tree.specs.Graph.{RingAt, Forest, Ring}
 use Rattle.tree.specs.Net.{firstEnd, secondEnd}
 use Rattle.tree.specs.Accept.{RingNumber, Rings, Accepts}
+use Rattle.tree.proofs.Rows.{Closes}
 use Rattle.tree.proofs.Labels.{joined?}
 use Rattle.tree.proofs.RingExactly.{ring-closes, closes-ring}
 use Rattle.tree.proofs.Begins.{rings-bad, not-refused}

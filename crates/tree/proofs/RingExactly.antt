@@ -8,9 +8,9 @@ use native.Mathlib.Omega.{arith}
 use native.Mathlib.Nat.{not-suc-le-zero}
 use lib.ListN.{length}
 use Rattle.tree.specs.Members.{In, at, past, Distinct}
-use Rattle.tree.specs.Graph.{First, But, Walk, stop, go, Simple, Closes, Forest, Ring}
+use Rattle.tree.specs.Graph.{First, Walk, stop, go, Simple, Forest, Ring}
 use Rattle.tree.proofs.Members.{not-nil}
-use Rattle.tree.proofs.Rows.{ends-left}
+use Rattle.tree.proofs.Rows.{But, Closes, ends-left}
 use Rattle.tree.proofs.Joined.{walk-mono}
 use Rattle.tree.proofs.Bridge.{detour}
 use Rattle.tree.proofs.OnePath.{avoid}

@@ -6,11 +6,11 @@ use mathlib.Core.List.{List, [], _∷_, _++_}
 use native.Mathlib.Omega.{arith}
 use native.Mathlib.Decide.{ℕ-discrete}
 use Rattle.tree.specs.Members.{In, at, past, Distinct}
-use Rattle.tree.specs.Graph.{First, But, Ends, Walk, stop, go, Joined, Closes}
+use Rattle.tree.specs.Graph.{First, Ends, Walk, stop, go, Joined}
 use Rattle.tree.specs.Path.{Sum, Path}
 use Rattle.tree.specs.Rooted.{Above, self, up, Rooted}
 use Rattle.tree.proofs.Members.{not-nil, distinct-snoc}
-use Rattle.tree.proofs.Rows.{ends-flip, ends-left, ends-one, other}
+use Rattle.tree.proofs.Rows.{But, Closes, ends-flip, ends-left, ends-one, other}
 use Rattle.tree.proofs.Joined.{joined-refl, joined-step, joined-trans, joined-sym, walk-mono, walk-snoc}
 use Rattle.tree.proofs.Bridge.{Cut, walk-cut, detour}
 use Rattle.tree.proofs.OnePath.{unique}

@@ -9,8 +9,9 @@ use native.Mathlib.Decide.{ℕ-discrete}
 use lib.ListN.{length, set, length-set}
 use lib.Seq.{getD-set-same, getD-set-other}
 use Rattle.arrays.specs.Filled.{at}
-use Rattle.tree.specs.Graph.{First, But, End, Walk, stop, go, Joined, Forest}
+use Rattle.tree.specs.Graph.{First, Walk, stop, go, Joined, Forest}
 use Rattle.tree.specs.Work.{RowsFit, Climb, here, step, Rises, Root, FirstRing, Linked, Numbered, Union}
+use Rattle.tree.proofs.Rows.{But, End}
 use Rattle.tree.proofs.Joined.{joined-refl, joined-step, joined-trans, joined-sym, joined-mono}
 use Rattle.tree.proofs.Bridge.{Cut, walk-cut}
 

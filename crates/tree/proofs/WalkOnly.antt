@@ -8,9 +8,9 @@ use native.Mathlib.Omega.{arith}
 use native.Mathlib.Decide.{ℕ-discrete, decLt}
 use lib.Seq.{ext-getD}
 use Rattle.arrays.specs.Filled.{at}
-use Rattle.tree.specs.Graph.{First, But, End, Ends, Joined, Closes, Forest}
+use Rattle.tree.specs.Graph.{First, Ends, Joined, Forest}
 use Rattle.tree.specs.Walked.{Reached, High, Walked}
-use Rattle.tree.proofs.Rows.{ends-flip, ends-one, other}
+use Rattle.tree.proofs.Rows.{But, End, Closes, ends-flip, ends-one, other}
 use Rattle.tree.proofs.Joined.{joined-refl, joined-step, joined-trans, joined-sym}
 use Rattle.tree.proofs.Bridge.{detour}
 use Rattle.tree.proofs.Labels.{joined?}

@@ -6,18 +6,14 @@ use Rattle.table.specs.Refuse.{Unless, FirstBad}
 use Rattle.table.specs.Header.{nodesOf, boundOf}
 use Rattle.table.specs.Examine.{Tested}
 use Rattle.table.specs.Outcome.{Outcome, refusal, found}
-use Rattle.tree.specs.Graph.{First, Joined, RingAt}
-use Rattle.tree.specs.Net.{firstEnd, secondEnd}
+use Rattle.tree.specs.Graph.{RingAt}
+use Rattle.tree.specs.Net.{firstEnd, secondEnd, Whole}
 use Rattle.tree.specs.declared.Acceptance.{Acceptance}
 use Rattle.tree.specs.declared.Acceptance.the-variants.{Accepted, Refused}
 
 -- row r's number: 11 where earlier rows already join its ends, else 0
 abbrev pub RingNumber : List ℕ → ℕ → ℕ → Type 0
 RingNumber s r = Unless ℕ 11 (¬ RingAt (firstEnd s) (secondEnd s) r) (λ k. k ≡ 0)
-
--- each of n nodes is joined to node 0
-abbrev pub Whole : List ℕ → ℕ → Type 0
-Whole s n = (x : ℕ) → x < n → Joined (firstEnd s) (secondEnd s) (First (n - 1)) 0 x
 
 -- 11 over all rows, the first such row named; then 12
 abbrev pub Rings : (A : Type 0) → (ℕ → ℕ → A) → List ℕ → ℕ → (A → Type 0) → A → Type 0

@@ -1,23 +1,17 @@
 -- The rows of a net: row r joins the nodes u r and v r. What a walk, a simple path and a ring are.
 use Prim.Native.Nat.{ℕ, _≤_, _<_}
 use mathlib.Core.Path.{_≡_}
-use mathlib.Core.Logic.{_⊎_, _≢_}
+use mathlib.Core.Logic.{_⊎_}
 use mathlib.Core.List.{List, [], _∷_}
 use lib.ListN.{length}
 use Rattle.tree.specs.Members.{Distinct}
 
--- the rows before row k, and the rows of P other than r
+-- the rows before row k
 abbrev pub First : ℕ → ℕ → Type 0
 First k s = s < k
 
-abbrev pub But : (ℕ → Type 0) → ℕ → ℕ → Type 0
-But P r s = P s × (s ≢ r)
-
 module _ (u v : ℕ → ℕ) where
-  -- a is an end of row r; a and c are its two ends, either way round
-  abbrev pub End : ℕ → ℕ → Type 0
-  End r a = (u r ≡ a) ⊎ (v r ≡ a)
-
+  -- a and c are the two ends of row r, either way round
   abbrev pub Ends : ℕ → ℕ → ℕ → Type 0
   Ends r a c = ((u r ≡ a) × (v r ≡ c)) ⊎ ((u r ≡ c) × (v r ≡ a))
 
@@ -34,12 +28,9 @@ module _ (u v : ℕ → ℕ) where
   abbrev pub Simple : (ℕ → Type 0) → ℕ → ℕ → Type 0
   Simple P a b = (rs : List ℕ) × (ns : List ℕ) × Walk P a rs ns b × Distinct (a ∷ ns)
 
-  -- earlier rows already join the ends of row r; among the first k rows is such a one; or there is none
+  -- earlier rows already join the ends of row r; and no row of the first k is such a one
   abbrev pub RingAt : ℕ → Type 0
   RingAt r = Joined (First r) (u r) (v r)
-
-  abbrev pub Closes : ℕ → Type 0
-  Closes k = (r : ℕ) × (r < k) × RingAt r
 
   abbrev pub Forest : ℕ → Type 0
   Forest k = (r : ℕ) → r < k → ¬ RingAt r

@@ -19,7 +19,11 @@ lengthOf s r = rowAt s r .length
 unfoldable pub weightOf : List ℕ → ℕ → ℤ
 weightOf s r = rowAt s r .weight
 
--- an accepted net of n nodes: n − 1 good rows, no ring, and every node joined to node 0
+-- each of n nodes is joined to node 0
+abbrev pub Whole : List ℕ → ℕ → Type 0
+Whole s n = (x : ℕ) → x < n → Joined (firstEnd s) (secondEnd s) (First (n - 1)) 0 x
+
+-- an accepted net of n nodes: n − 1 good rows, no ring, and all joined
 pub record Net (s : List ℕ) (n : ℕ) : Type 0 where
   pub some : 1 ≤ n
   pub few : n ≤ 4096
@@ -30,7 +34,7 @@ pub record Net (s : List ℕ) (n : ℕ) : Type 0 where
   pub short : (r : ℕ) → r < n - 1 → lengthOf s r ≤ 1000000
   pub within : (r : ℕ) → r < n - 1 → Within (weightOf s r)
   pub forest : Forest (firstEnd s) (secondEnd s) (n - 1)
-  pub joined : (x : ℕ) → x < n → Joined (firstEnd s) (secondEnd s) (First (n - 1)) 0 x
+  pub joined : Whole s n
 
 -- two different nodes of a net of n, else 15
 pub record TwoNodes (n a b : ℕ) : Type 0 where
