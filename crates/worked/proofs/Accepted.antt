@@ -14,8 +14,8 @@ use Rattle.table.specs.Row.{rowAt}
 use Rattle.table.specs.Examine.{RowNumber}
 use Rattle.table.proofs.Accepted.{Headed, past-header}
 use Rattle.tree.specs.Graph.{Forest}
-use Rattle.tree.specs.Net.{firstEnd, secondEnd}
-use Rattle.tree.specs.Accept.{Whole, Begins}
+use Rattle.tree.specs.Net.{firstEnd, secondEnd, Whole}
+use Rattle.tree.specs.Accept.{Begins}
 use Rattle.tree.proofs.Labels.{label, label-joined, grows, grows-forest}
 use Rattle.worked.proofs.Tests.{every, every-passed, below, below-all}
 
