@@ -1,6 +1,6 @@
 -- Each C function's promise allows one outcome: it shows the operation's own, of which there is one.
 use Prim.Native.Nat.{ℕ}
-use mathlib.Core.Path.{_≡_, sym, ap, _∙_}
+use mathlib.Core.Path.{sym, ap, _∙_}
 use mathlib.Core.List.{List}
 use lib.IntN.{ℤ}
 use Rattle.table.specs.Refuse.{Only}

@@ -43,7 +43,7 @@ heaviest-low s marks x p =
     (λ _. by-unless (λ o. o .row < 4096) (omega arith) (λ _ _. by-unless (λ o. o .row < 4096) (omega arith) (λ _ _ h. rw (h .is) (omega arith)))) p
 
 pub heads-low : (s before : List ℕ) (x : H.Outcome) → H.Headings s before x → x .row < 4096
-heads-low s before x p = by-beginning (λ o. o .row < 4096) s (λ k r l. l) (λ _. by-unless (λ o. o .row < 4096) (omega arith) (λ _ _ h. omega (arith, h .row))) p
+heads-low s before x p = by-beginning (λ o. o .row < 4096) s (λ k r l. l) (λ _. by-unless (λ o. o .row < 4096) (omega arith) (λ _ _ h. rw (h .is) (omega arith))) p
 
 pub listing-low : (s marks : List ℕ) (floor : ℤ) (low high : ℕ) (old : List ℕ) (x : L.Outcome) → L.ListingOf s marks floor low high old x → x .row < 4096
 listing-low s marks floor low high old x p =
@@ -54,9 +54,9 @@ numbered-low : (n : ℕ) (before : List ℕ) (run : ℕ) {rest : M.Outcome → T
 numbered-low n before run f x p = by-unless (λ o. o .row < 4096) (omega arith) (λ _ _. by-unless (λ o. o .row < 4096) (omega arith) (λ _. f)) p
 
 pub settle-low : (m : ℕ) (s before : List ℕ) (run : ℕ) (x : M.Outcome) → M.Settles m s before run x → x .row < 4096
-settle-low m s before run x p = by-beginning (λ o. o .row < 4096) s (λ k r l. l) (numbered-low _ before run (λ o h. omega (arith, h .no-row))) p
+settle-low m s before run x p = by-beginning (λ o. o .row < 4096) s (λ k r l. l) (numbered-low _ before run (λ o h. rw (h .is) (omega arith))) p
 
 pub claim-low : (s before : List ℕ) (run a b : ℕ) (x : M.Outcome) → Claims s before run a b x → x .row < 4096
 claim-low s before run a b x p =
     by-beginning (λ o. o .row < 4096) s (λ k r l. l)
-    (numbered-low _ before run (λ _. by-unless (λ o. o .row < 4096) (omega arith) (λ _ _. by-unless (λ o. o .row < 4096) (omega arith) (λ _ _. by-unless (λ o. o .row < 4096) (omega arith) (λ _ _ h. omega (arith, h .no-row)))))) p
+    (numbered-low _ before run (λ _. by-unless (λ o. o .row < 4096) (omega arith) (λ _ _. by-unless (λ o. o .row < 4096) (omega arith) (λ _ _. by-unless (λ o. o .row < 4096) (omega arith) (λ _ _ h. rw (h .is) (omega arith)))))) p

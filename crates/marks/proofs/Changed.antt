@@ -19,7 +19,7 @@ use Rattle.tree.proofs.OnePath.{unique}
 use Rattle.tree.proofs.RingExactly.{once}
 use Rattle.tree.proofs.Counts.{count-same, count-unique, count-some}
 use Rattle.marks.specs.Mark.{free, HeldBy, RunNumber}
-use Rattle.marks.specs.Change.{Changes, Done}
+use Rattle.marks.specs.Change.{changed, Changes, Done}
 use Rattle.marks.specs.Claim.{Between, InReach, Taken, SomeFree}
 use Rattle.marks.specs.Work.{Holds, one-free, Frees, Held}
 use Rattle.marks.proofs.Rises.{Whole}
@@ -50,11 +50,9 @@ changes-marks {P} {m} {before} {x} {y} p q = ext-getD 0 x y (p .same-many ∙ sy
 
 pub done-only : {P : ℕ → Type 0} {m : ℕ} {before : List ℕ} → Only (Done P m before)
 done-only x y p q =
-    let e : x .number ≡ y .number = p .no-number ∙ sym (q .no-number) in
-    let f : x .row ≡ y .row = p .no-row ∙ sym (q .no-row) in
     let g : x .count ≡ y .count = count-unique (p .marks .count) (q .marks .count) in
     let h : x .marks ≡ y .marks = changes-marks (p .marks) (q .marks) in
-    λ i. record { number = e i; row = f i; count = g i; marks = h i }
+    p .is ∙ (λ i. changed (h i) (g i)) ∙ sym (q .is)
 
 count-has : {P : ℕ → Type 0} {k : ℕ} → Count P k → k ≢ 0 → (x : ℕ) × P x
 count-has {P} {k} c m = pick (c .list) (c .long) (c .only)

@@ -63,7 +63,7 @@ module _ {s : List ℕ} {n : ℕ} {parent half place : List ℕ} (N : Net s n) (
       all-taken {mid} {after} z p q =
           passed (record { rows = whole .rows; path = whole .path; short = omega (arith, long) })
           (passed (some-free N before whole (λ e. z (sym frees ∙ e)))
-          (record { no-number = refl; no-row = refl; marks = rw frees at (claimed N before whole both) }))
+          (record { is = refl; marks = rw frees at (claimed N before whole both) }))
         where
           first : Held (ups .rows) run before mid
           first = rw (rise-only rooted (R .pair .first) (p .rise) (ups .rise)) at (p .held)

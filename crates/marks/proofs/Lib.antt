@@ -7,4 +7,5 @@ pub mod Replacing
 pub mod Changed
 pub mod Claims
 pub mod MarksOnly
+pub mod Either
 pub mod Theorems

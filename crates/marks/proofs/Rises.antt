@@ -31,11 +31,7 @@ module _ {par row : ℕ → ℕ} {t : ℕ} where
   rise-next n (work.up {rs = rest} z e h) = (z, rest, refl, rw e h)
 
 module _ {u v : ℕ → ℕ} {k n : ℕ} {par row place : ℕ → ℕ} (R : Rooted u v k n par row place) where
-  -- each of its rows is a row of the net, and there are fewer than places
-  pub rise-fits : {t x r : ℕ} {rs : List ℕ} → x < n → Rise par row t x rs → In r rs → r < k
-  rise-fits {x = x} b (work.up z e h) (at q) = rw q (R .row-fits x b z)
-  rise-fits {x = x} b (work.up z e h) (past i) = rise-fits (rw e at (R .par-fits x b z)) h i
-
+  -- it has fewer rows than its node's place
   pub rise-short : {t x : ℕ} {rs : List ℕ} → x < n → Rise par row t x rs → length rs + place t ≤ place x
   rise-short b work.here = omega arith
   rise-short {x = x} b (work.up z e h) = omega (arith, rw e at (R .earlier x b z), rise-short (rw e at (R .par-fits x b z)) h)
@@ -95,10 +91,6 @@ module _ {u v : ℕ → ℕ} {k n : ℕ} {par row place : ℕ → ℕ} (R : Root
           first : (r : ℕ) → In r (row y ∷ downs) → In r (w .rows ++ (row y ∷ []))
           first r (at q) = in-right (w .rows) (at q)
           first r (past i) = in-left (row y ∷ []) (w .all r (inr i))
-
-  pub sum-most : {t x : ℕ} {rs : List ℕ} (f : ℕ → ℕ) → ((r : ℕ) → r < k → f r ≤ 1000000) → x < n → Rise par row t x rs → Sum f rs ≤ 1000000 * length rs
-  sum-most f h b work.here = omega arith
-  sum-most {x = x} f h b (work.up z e j) = omega (arith, h (row x) (R .row-fits x b z), sum-most f h (rw e at (R .par-fits x b z)) j)
 
   -- a climb has one list of rows
   pub rise-only : {t x : ℕ} {rs qs : List ℕ} → x < n → Rise par row t x rs → Rise par row t x qs → rs ≡ qs

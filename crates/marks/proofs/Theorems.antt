@@ -1,4 +1,4 @@
--- What a reader of demand 2 looks for: claim, commit and abort change exactly the marks named.
+-- What a reader of demand 2 looks for: claim, commit and abort change exactly the marks named, and a claim's two nodes may stand in either order.
 -- Each is read off the promises; an outcome with number 0 is one in which nothing was refused.
 use mathlib.Core.Path.{_≡_, sym, ap, _∙_}
 use mathlib.Core.Logic.{_≢_}
@@ -9,12 +9,14 @@ use native.Mathlib.Omega.{arith}
 use lib.Seq.{ext-getD}
 use Rattle.arrays.specs.Filled.{at}
 use Rattle.table.specs.Header.{nodesOf}
-use Rattle.table.proofs.Refusals.{past}
+use Rattle.table.proofs.Refusals.{past, unless-map, first-bad-map}
+use Rattle.table.proofs.Accepted.{tested-map}
 use Rattle.tree.proofs.Begins.{begins-past}
 use Rattle.tree.proofs.Counts.{count-none, count-unique}
 use Rattle.marks.specs.Mark.{free, spent, Free, HeldBy, RunNumber}
 use Rattle.marks.specs.Change.{Outcome, refusal, Changes, Settles, Commits, Aborts}
 use Rattle.marks.specs.Claim.{Taken, Claims}
+use Rattle.marks.proofs.Either.{nodes-flip, unless-alike, ended-flip}
 
 -- nothing was refused
 abbrev Good : Outcome → Type 0
@@ -50,6 +52,12 @@ module _ (s before : List ℕ) {o : Outcome} (good : Good o) where
   -- A CLAIM NEVER TOUCHES A MARK THAT WAS NOT FREE
   pub claim-keeps : {run a b : ℕ} → Claims s before run a b o → (r : ℕ) → (Free (at before r) → ⊥) → at (o .marks) r ≡ at before r
   claim-keeps p r n = claimed p .1 .stays r (λ t. n (t .free))
+
+-- A CLAIM TAKES ITS TWO NODES IN EITHER ORDER
+pub claim-either : (s before : List ℕ) {run a b : ℕ} {o : Outcome} → Claims s before run a b o → Claims s before run b a o
+claim-either s before p =
+    tested-map (λ o. o) (refusal before) s (λ _. first-bad-map (λ o. o) (λ _. unless-map (λ o. o) (λ _.
+    unless-map (λ o. o) (λ _. unless-map (λ o. o) (λ _. unless-alike nodes-flip nodes-flip ended-flip))))) p
 
 -- AFTER CLAIM THEN ABORT of a run that held nothing before, the marks are as they were
 pub claim-abort : (s before : List ℕ) {run a b : ℕ} {o q : Outcome} → Good o → Good q → ((r : ℕ) → HeldBy run (at before r) → ⊥)

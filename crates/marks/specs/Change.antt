@@ -1,5 +1,6 @@
--- What claim, commit and abort leave: number and row of a refusal, how many marks changed, and the lent marks. And what commit and abort promise.
+-- What claim, commit and abort leave: whether they were refused, with number and row, how many marks changed, and the lent marks. And what commit and abort promise.
 use mathlib.Core.Path.{_≡_}
+use mathlib.Core.Bool.{Bool, true, false}
 use mathlib.Core.List.{List}
 use Prim.Native.Nat.{ℕ, _-_}
 use lib.ListN.{length}
@@ -13,6 +14,7 @@ use Rattle.marks.specs.declared.Change.{Change}
 use Rattle.marks.specs.declared.Change.the-variants.{Changed, Refused}
 
 pub record Outcome : Type 0 where
+  pub refused : Bool
   pub number : ℕ
   pub row : ℕ
   pub count : ℕ
@@ -20,11 +22,15 @@ pub record Outcome : Type 0 where
 
 -- a refusal: number and row, and the marks as they were
 abbrev pub refusal : List ℕ → ℕ → ℕ → Outcome
-refusal before k r = record { number = k; row = r; count = 0; marks = before }
+refusal before k r = record { refused = true; number = k; row = r; count = 0; marks = before }
+
+-- nothing is refused, and k marks changed
+abbrev pub changed : List ℕ → ℕ → Outcome
+changed after k = record { refused = false; number = 0; row = 0; count = k; marks = after }
 
 abbrev pub outcome : Change → List ℕ → Outcome
-outcome (Changed k) after = record { number = 0; row = 0; count = k; marks = after }
-outcome (Refused w) after = record { number = w .number; row = w .row; count = 0; marks = after }
+outcome (Changed k) after = changed after k
+outcome (Refused w) after = refusal after (w .number) (w .row)
 
 -- each mark at a place of P becomes m, no other mark changes, and k is how many places P has
 pub record Changes (P : ℕ → Type 0) (m : ℕ) (before after : List ℕ) (k : ℕ) : Type 0 where
@@ -35,8 +41,7 @@ pub record Changes (P : ℕ → Type 0) (m : ℕ) (before after : List ℕ) (k :
 
 -- nothing is refused, and the marks change so
 pub record Done (P : ℕ → Type 0) (m : ℕ) (before : List ℕ) (o : Outcome) : Type 0 where
-  pub no-number : o .number ≡ 0
-  pub no-row : o .row ≡ 0
+  pub is : o ≡ changed (o .marks) (o .count)
   pub marks : Changes P m before (o .marks) (o .count)
 
 -- 13 and 14, of a net of n nodes: one mark for each branch, and a run's number; then as the rest says

@@ -1,26 +1,19 @@
 -- Claim: each free branch of the path between two nodes becomes held by the run.
-use mathlib.Core.Logic.{_≢_}
 use mathlib.Core.List.{List}
-use Prim.Native.Nat.{ℕ, _-_, _≤_, _<_}
+use Prim.Native.Nat.{ℕ, _-_, _≤_}
 use Rattle.arrays.specs.Filled.{at}
 use Rattle.table.specs.Refuse.{Unless}
 use Rattle.table.specs.Header.{nodesOf, boundOf}
 use Rattle.tree.specs.Members.{In}
 use Rattle.tree.specs.Path.{Sum, Path}
 use Rattle.tree.specs.Accept.{Begins}
-use Rattle.tree.specs.Net.{firstEnd, secondEnd, lengthOf}
+use Rattle.tree.specs.Net.{firstEnd, secondEnd, lengthOf, TwoNodes}
 use Rattle.marks.specs.Mark.{Free}
 use Rattle.marks.specs.Change.{Outcome, refusal, Done, Numbered}
 
 -- the rows rs are the path between a and b in a net of n nodes
 abbrev pub Between : List ℕ → ℕ → ℕ → List ℕ → ℕ → Type 0
 Between s n a rs b = Path (firstEnd s) (secondEnd s) (n - 1) a rs b
-
--- two different nodes below n
-pub record Pair (n a b : ℕ) : Type 0 where
-  pub first : a < n
-  pub second : b < n
-  pub apart : a ≢ b
 
 -- the path is no longer than the bound
 pub record InReach (s : List ℕ) (n bound a b : ℕ) : Type 0 where
@@ -51,7 +44,7 @@ Ended s n bound before run a b =
 abbrev pub Claiming : List ℕ → ℕ → ℕ → List ℕ → ℕ → ℕ → ℕ → Outcome → Type 0
 Claiming s n bound before run a b =
     Numbered n before run
-    (Unless Outcome (refusal before 15 0) (Pair n a b)
+    (Unless Outcome (refusal before 15 0) (TwoNodes n a b)
     (Ended s n bound before run a b))
 
 abbrev pub Claims : List ℕ → List ℕ → ℕ → ℕ → ℕ → Outcome → Type 0

@@ -9,10 +9,9 @@ use Rattle.tree.specs.Members.{In}
 use Rattle.tree.specs.Path.{Sum}
 use Rattle.tree.specs.Rooted.{Rooted}
 use Rattle.tree.specs.Walked.{Walked}
-use Rattle.tree.specs.Net.{Net, firstEnd, secondEnd, lengthOf}
+use Rattle.tree.specs.Net.{Net, firstEnd, secondEnd, lengthOf, TwoNodes}
 use Rattle.table.specs.Row.{Stands}
 use Rattle.marks.specs.Mark.{Free, RunNumber}
-use Rattle.marks.specs.Claim.{Pair}
 
 -- a place that holds `old`
 pub record Holds (before : List ℕ) (old r : ℕ) : Type 0 where
@@ -86,8 +85,9 @@ pub record Ready (s marks : List ℕ) (n run a b : ℕ) : Type 0 where
   pub net : Net s n
   pub many : length marks ≡ n - 1
   pub number : RunNumber run
-  pub pair : Pair n a b
+  pub pair : TwoNodes n a b
 
+-- the walk's arrays of the net that the table s holds
 pub record Walk (s : List ℕ) (n : ℕ) (parent half place : List ℕ) : Type 0 where
   pub order : List ℕ
   pub walked : Walked (firstEnd s) (secondEnd s) (n - 1) n parent half order place

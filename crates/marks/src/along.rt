@@ -129,7 +129,7 @@ fn claim_walked(
     requires { ⌜ Ready (now table) (now marks) nodes run a b ⌝ }
     ensures { λ r. ⌜ Ended (now (table .entry)) nodes bound (now (marks .entry)) run a b (outcome r (now (marks .exit))) ⌝ }
 {
-    let mut parent: [u16; 4096] = [0; 4096];
+    let mut parent: [u16; 4096] = [4096; 4096];
     let mut half: [u16; 4096] = [0; 4096];
     let mut order: [u16; 4096] = [0; 4096];
     let mut place: [u16; 4096] = [0; 4096];

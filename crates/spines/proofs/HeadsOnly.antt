@@ -1,6 +1,6 @@
 -- The operation heads: from the heads by the walk's arrays to those of the net; and its promise allows one outcome.
 use Prim.Native.Nat.{ℕ, _-_}
-use mathlib.Core.Path.{_≡_, refl, sym, _∙_}
+use mathlib.Core.Path.{_≡_, refl, sym, ap, _∙_}
 use mathlib.Core.List.{List}
 use native.Mathlib.Omega.{arith}
 use lib.ListN.{length}
@@ -14,7 +14,7 @@ use Rattle.tree.specs.Walked.{Walked}
 use Rattle.tree.proofs.Grown.{grown-tree}
 use Rattle.tree.proofs.NetWalk.{walk-grown, walk-rooted}
 use Rattle.tree.proofs.Begins.{begins-net-only}
-use Rattle.spines.specs.Heads.{refusal, outcome, Heads, Lists, Headings}
+use Rattle.spines.specs.Heads.{refusal, written, outcome, Heads, Lists, Headings}
 use Rattle.spines.specs.Parents.{HeadsAll}
 use Rattle.spines.specs.Work.{Copied}
 use Rattle.spines.specs.declared.HeadsAnswer.the-variants.{Written}
@@ -26,8 +26,7 @@ heads-listed s n {list} t w h c e =
     passed {x = outcome Written list}
     e
     (record {
-      number = refl;
-      row = refl;
+      is = refl;
       long = c .long ∙ e;
       each = λ v b. rw (c .each v (omega (arith, e))) (head-net (walk-rooted t w) (grown-tree (walk-grown t w)) (t .some) (h .each v b));
     })
@@ -35,7 +34,7 @@ heads-listed s n {list} t w h c e =
 heads-one : (s : List ℕ) (n : ℕ) → Net s n → Only (Heads s n)
 heads-one s n t x y p q =
     let e : x .list ≡ y .list = ext-getD 0 (x .list) (y .list) (p .long ∙ sym (q .long)) (λ i b. net-head-only (t .forest) (p .each i (rw (p .long) at b)) (q .each i (rw (p .long) at b))) in
-    λ i. record { number = (p .number ∙ sym (q .number)) i; row = (p .row ∙ sym (q .row)) i; list = e i }
+    p .is ∙ ap written e ∙ sym (q .is)
 
 pub heads-only : (s before : List ℕ) → Only (Headings s before)
 heads-only s before = begins-net-only (refusal before) s (λ t. unless-only (heads-one s (nodesOf s) t))

@@ -2,8 +2,10 @@
 use Prim.Native.Nat.{ℕ, zero, suc, _+_, _*_, _≤_, _<_}
 use mathlib.Core.Path.{_≡_, refl}
 use mathlib.Core.Logic.{_⊎_, inl, inr, _≢_}
+use mathlib.Core.List.{List}
 use native.Mathlib.Omega.{arith}
 use native.Mathlib.Decide.{ℕ-discrete}
+use Rattle.arrays.specs.Filled.{at}
 use Rattle.tree.specs.Count.{Count}
 use Rattle.tree.specs.Graph.{Forest}
 use Rattle.tree.specs.Rooted.{Above, self, up, Passed, Rooted}
@@ -16,7 +18,7 @@ use Rattle.tree.proofs.Climbs.{none-passed, root-above}
 use Rattle.tree.proofs.Route.{route}
 use Rattle.spines.specs.Spine.{ChildOf, Leaf, Leaves}
 use Rattle.spines.specs.Hops.{Hops, FloorLog}
-use Rattle.spines.specs.Parents.{Child}
+use Rattle.spines.specs.Parents.{Child, HopsBy}
 use Rattle.spines.specs.Work.{Leaving}
 use Rattle.spines.proofs.Below.{leaf-under}
 use Rattle.spines.proofs.Leaves.{leaves-up, above?, many, many-leaves}
@@ -27,6 +29,10 @@ use Rattle.spines.proofs.Net.{child-net, net-child}
 -- one number of hops
 pub hops-only : {u v : ℕ → ℕ} {k n x y h g : ℕ} → Forest u v k → Hops u v k n x y h → Hops u v k n x y g → h ≡ g
 hops-only {u} {v} F p q = count-unique (p .touches) (rw (unique u v F (p .walk) (q .walk) (p .once) (q .once) .1) (q .touches))
+
+-- and one by a walk's arrays, of any net that hangs so
+pub hops-by-only : {u v row : ℕ → ℕ} {k n x y h g : ℕ} {parent place : List ℕ} → Rooted u v k n (at parent) row (at place) → HopsBy n parent place x y h → HopsBy n parent place x y g → h ≡ g
+hops-by-only {u} {v} {row} {k} R p q = hops-only (R .forest) (p .hops u v k row R) (q .hops u v k row R)
 
 -- the same either way
 pub hops-flip : {u v : ℕ → ℕ} {k n x y h : ℕ} → Hops u v k n x y h → Hops u v k n y x h

@@ -5,13 +5,14 @@ use mathlib.Core.List.{List}
 use Rattle.tree.specs.Count.{Count}
 use Rattle.tree.specs.Net.{firstEnd, secondEnd, Net}
 use Rattle.tree.proofs.Hung.{net-hangs}
-use Rattle.spines.specs.Spine.{ChildOf, Leaf}
+use Rattle.spines.specs.Spine.{ChildOf, Leaf, Leaves}
 use Rattle.spines.specs.Hops.{Hops, FloorLog}
 use Rattle.spines.specs.Heads.{HeadOf}
 use Rattle.spines.proofs.FloorLog.{log-some}
 use Rattle.spines.proofs.Leaves.{many, many-leaves, many-some}
 use Rattle.spines.proofs.Head.{head-of}
-use Rattle.spines.proofs.Net.{head-net, net-head-only}
+use Rattle.spines.proofs.Same.{same-leaves}
+use Rattle.spines.proofs.Net.{child-net, net-child, head-net, net-head-only}
 use Rattle.spines.proofs.HopsBound.{hops-bound, leaves-root}
 
 -- Every node of an accepted net has a head,
@@ -21,6 +22,12 @@ head-there x t b = let g = net-hangs t in let h = head-of (g .tree) x b in (h .0
 -- and one only.
 pub head-single : {s : List ℕ} {n h g x : ℕ} → Net s n → HeadOf s n h x → HeadOf s n g x → h ≡ g
 head-single t = net-head-only (t .forest)
+
+-- Every node has a number of leaves below it, so that the child with most of them (`Main`) is chosen among numbers that there are.
+pub leaves-each : {s : List ℕ} {n : ℕ} (v : ℕ) → Net s n → (a : ℕ) × Leaves (ChildOf (firstEnd s) (secondEnd s) (n - 1) n) n v a
+leaves-each v t =
+    let g = net-hangs t in
+    (many (g .tree) v, same-leaves (child-net (g .rooted) (g .tree) (t .some)) (net-child (g .rooted) (g .tree) (t .some)) v _ (many-leaves (g .tree) v))
 
 -- Hops never exceed 1 + 2 × floor(log2 of the number of leaves).
 pub hops-at-most : {s : List ℕ} {n x y h a c : ℕ} → Net s n → x < n → y < n → Hops (firstEnd s) (secondEnd s) (n - 1) n x y h → Count (Leaf (ChildOf (firstEnd s) (secondEnd s) (n - 1) n) n) a → FloorLog a c → h ≤ 1 + 2 * c

@@ -1,6 +1,7 @@
 -- The operation heads: refusals 1 to 12, then 20; then each node's head stands in the lent list.
 use Prim.Native.Nat.{ℕ, _-_, _<_}
 use mathlib.Core.Path.{_≡_}
+use mathlib.Core.Bool.{Bool, true, false}
 use mathlib.Core.List.{List}
 use lib.ListN.{length}
 use Rattle.arrays.specs.Filled.{at}
@@ -16,24 +17,28 @@ use Rattle.spines.specs.declared.HeadsAnswer.the-variants.{Written, Refu
 abbrev pub HeadOf : List ℕ → ℕ → ℕ → ℕ → Type 0
 HeadOf s n h x = Head (ChildOf (firstEnd s) (secondEnd s) (n - 1) n) n h x
 
--- number and row, and the lent list afterwards
+-- whether it was refused, number and row, and the lent list afterwards
 pub record Outcome : Type 0 where
+  pub refused : Bool
   pub number : ℕ
   pub row : ℕ
   pub list : List ℕ
 
 -- a refusal leaves the list as it was
 abbrev pub refusal : List ℕ → ℕ → ℕ → Outcome
-refusal before k r = record { number = k; row = r; list = before }
+refusal before k r = record { refused = true; number = k; row = r; list = before }
+
+-- nothing is refused
+abbrev pub written : List ℕ → Outcome
+written after = record { refused = false; number = 0; row = 0; list = after }
 
 abbrev pub outcome : HeadsAnswer → List ℕ → Outcome
-outcome Written list = record { number = 0; row = 0; list = list }
+outcome Written list = written list
 outcome (Refused w) list = refusal list (w .number) (w .row)
 
 -- the list holds the n nodes' heads
 pub record Heads (s : List ℕ) (n : ℕ) (x : Outcome) : Type 0 where
-  pub number : x .number ≡ 0
-  pub row : x .row ≡ 0
+  pub is : x ≡ written (x .list)
   pub long : length (x .list) ≡ n
   pub each : (v : ℕ) → v < n → HeadOf s n (at (x .list) v) v
 

@@ -1,4 +1,4 @@
--- What a reader must believe of this crate.
+-- What a reader must believe of this crate; Work holds only working statements of private functions.
 pub mod Spine
 pub mod Hops
 pub mod Heads

@@ -13,9 +13,9 @@ use Rattle.table.specs.Header.{nodesOf, boundOf}
 use Rattle.tree.specs.Members.{In}
 use Rattle.tree.specs.Path.{Sum}
 use Rattle.tree.specs.Net.{lengthOf}
-use Rattle.marks.specs.Change.{Outcome, refusal, Changes}
+use Rattle.marks.specs.Change.{Outcome, refusal, changed, Changes}
 use Rattle.marks.specs.Claim.{Between, InReach, Taken, Ended, Claims}
-use Rattle.worked.proofs.Tests.{and, both, cond-yes, cond-no, every, every-passed, below, below-all, throughout, throughout-in, has, in-has, has-in, no-repeat, no-repeat-distinct, same, same-is}
+use Rattle.worked.proofs.Tests.{and, both, is-true, is-false, cond-yes, cond-no, every, every-passed, below, below-all, throughout, throughout-in, has, in-has, has-in, no-repeat, no-repeat-distinct, same, same-is}
 use Rattle.worked.proofs.Accepted.{accepted?, begins}
 use Rattle.worked.proofs.Ways.{path?, is-path, path-only}
 
@@ -32,7 +32,7 @@ module _ (way : ℕ → ℕ → List ℕ) (s before : List ℕ) (run a b : ℕ) 
   frees (r ∷ l) = cond (eqb (at before r) 0) (r ∷ frees l) (frees l)
 
   abbrev refused-tests : ℕ → List Bool
-  refused-tests k = eqb (o .number) k ∷ eqb (o .row) 0 ∷ eqb (o .count) 0 ∷ same (o .marks) before ∷ []
+  refused-tests k = o .refused ∷ eqb (o .number) k ∷ eqb (o .row) 0 ∷ eqb (o .count) 0 ∷ same (o .marks) before ∷ []
 
   -- too long; or none free; or claimed
   abbrev long-tests : List Bool
@@ -40,6 +40,9 @@ module _ (way : ℕ → ℕ → List ℕ) (s before : List ℕ) (run a b : ℕ) 
 
   abbrev none-tests : List Bool
   none-tests = every (refused-tests 19) ∷ leb (Sum (lengthOf s) rs) (boundOf s) ∷ throughout (λ r. not (eqb (at before r) 0)) rs ∷ []
+
+  abbrev changed-tests : List Bool
+  changed-tests = not (o .refused) ∷ eqb (o .number) 0 ∷ eqb (o .row) 0 ∷ []
 
   abbrev right : ℕ → Bool
   right r = eqb (at (o .marks) r) (cond (taken? r) run (at before r))
@@ -49,7 +52,7 @@ module _ (way : ℕ → ℕ → List ℕ) (s before : List ℕ) (run a b : ℕ) 
 
   abbrev done-tests : List Bool
   done-tests =
-      eqb (o .number) 0 ∷ eqb (o .row) 0 ∷ eqb (length (o .marks)) (length before) ∷ leb (Sum (lengthOf s) rs) (boundOf s) ∷ below right (length before) ∷ throughout (λ r. ltb r (length before)) rs
+      every changed-tests ∷ eqb (length (o .marks)) (length before) ∷ leb (Sum (lengthOf s) rs) (boundOf s) ∷ below right (length before) ∷ throughout (λ r. ltb r (length before)) rs
       ∷ no-repeat (frees rs) ∷ throughout taken? (frees rs) ∷ throughout counted rs ∷ eqb (length (frees rs)) (o .count) ∷ taken? (at (frees rs) 0) ∷ []
 
   abbrev ended : Bool
@@ -64,11 +67,20 @@ module _ (way : ℕ → ℕ → List ℕ) (s before : List ℕ) (run a b : ℕ) 
   is-refusal : (k : ℕ) → T (every (refused-tests k)) → o ≡ refusal before k 0
   is-refusal k t =
       let q = every-passed (refused-tests k) t in
-      let n : o .number ≡ k = eqb→eq _ _ (q .0) in
-      let r : o .row ≡ 0 = eqb→eq _ _ (q .1 .0) in
-      let c : o .count ≡ 0 = eqb→eq _ _ (q .1 .1 .0) in
-      let m : o .marks ≡ before = same-is _ _ (q .1 .1 .1 .0) in
-      λ i. record { number = n i; row = r i; count = c i; marks = m i }
+      let f : o .refused ≡ true = is-true (o .refused) (q .0) in
+      let n : o .number ≡ k = eqb→eq _ _ (q .1 .0) in
+      let r : o .row ≡ 0 = eqb→eq _ _ (q .1 .1 .0) in
+      let c : o .count ≡ 0 = eqb→eq _ _ (q .1 .1 .1 .0) in
+      let m : o .marks ≡ before = same-is _ _ (q .1 .1 .1 .1 .0) in
+      λ i. record { refused = f i; number = n i; row = r i; count = c i; marks = m i }
+
+  is-changed : T (every changed-tests) → o ≡ changed (o .marks) (o .count)
+  is-changed t =
+      let q = every-passed changed-tests t in
+      let f : o .refused ≡ false = is-false (o .refused) (q .0) in
+      let n : o .number ≡ 0 = eqb→eq _ _ (q .1 .0) in
+      let r : o .row ≡ 0 = eqb→eq _ _ (q .1 .1 .0) in
+      λ i. record { refused = f i; number = n i; row = r i; count = o .count; marks = o .marks }
 
   module _ (ok : T (accepted? s)) (w : T (path? s a rs b)) where
     path : Between s (nodesOf s) a rs b
@@ -92,8 +104,8 @@ module _ (way : ℕ → ℕ → List ℕ) (s before : List ℕ) (run a b : ℕ) 
     changes : T (every done-tests) → Changes (Taken s before (nodesOf s) a b) run before (o .marks) (o .count)
     changes t =
         let q = every-passed done-tests t in
-        let z = q .1 .1 .1 .1 in
-        let m : length (o .marks) ≡ length before = eqb→eq _ _ (q .1 .1 .0) in
+        let z = q .1 .1 .1 in
+        let m : length (o .marks) ≡ length before = eqb→eq _ _ (q .1 .0) in
         record {
           same-many = m;
           becomes = λ r k. eqb→eq _ _ (below-all right (length before) (z .0) r (ltb→lt _ _ (throughout-in (λ r. ltb r (length before)) rs (z .1 .0) r (on-path k)))) ∙ cond-yes (taken? r) run (at before r) (of-taken r k);
@@ -129,9 +141,9 @@ module _ (way : ℕ → ℕ → List ℕ) (s before : List ℕ) (run a b : ℕ) 
             turn (refusal before 19 0) (is-refusal 19 (q .0)) (passed (record { rows = rs; path = path; short = leb→le _ _ (q .1 .0) }) (refused (λ f. T-not (eqb (at before (f .row)) 0) (throughout-in (λ r. not (eqb (at before r) 0)) rs (q .1 .1 .0) (f .row) (on-path (f .taken))) (rw (f .taken .free) (eqb-refl 0)))))
         pick false false t =
             let q = every-passed done-tests t in
-            passed (record { rows = rs; path = path; short = leb→le _ _ (q .1 .1 .1 .0) })
-            (passed (record { row = at (frees rs) 0; taken = taken-of (at (frees rs) 0) (q .1 .1 .1 .1 .1 .1 .1 .1 .1 .1 .0) })
-            (record { no-number = eqb→eq _ _ (q .0); no-row = eqb→eq _ _ (q .1 .0); marks = changes t }))
+            passed (record { rows = rs; path = path; short = leb→le _ _ (q .1 .1 .0) })
+            (passed (record { row = at (frees rs) 0; taken = taken-of (at (frees rs) 0) (q .1 .1 .1 .1 .1 .1 .1 .1 .1 .0) })
+            (record { is = is-changed (q .0); marks = changes t }))
 
   pub is-claim : T claim? → Claims s before run a b o
   unfolding claim?

@@ -2,7 +2,7 @@
 use Prim.Native.Nat.{ℕ, _-_, _<_}
 use mathlib.Core.Path.{_≡_}
 use mathlib.Core.Logic.{_⊎_, inl, inr}
-use mathlib.Core.Bool.{Bool, not, _||_}
+use mathlib.Core.Bool.{Bool, false, not, _||_}
 use mathlib.Core.List.{List, [], _∷_}
 use native.Mathlib.Omega.{arith}
 use native.Mathlib.Decide.{ℕ-discrete}
@@ -13,12 +13,12 @@ use Rattle.table.specs.Refuse.{passed}
 use Rattle.table.specs.Header.{nodesOf}
 use Rattle.tree.specs.Net.{firstEnd, secondEnd}
 use Rattle.spines.specs.Spine.{ChildOf, Leaf}
-use Rattle.spines.specs.Heads.{HeadOf, Outcome, refusal, Headings}
+use Rattle.spines.specs.Heads.{HeadOf, Outcome, refusal, written, Headings}
 use Rattle.spines.specs.Parents.{Child}
 use Rattle.spines.proofs.Same.{same-leaf}
 use Rattle.spines.proofs.Net.{child-net, net-child}
 use Rattle.worked.specs.Case.{LeavesAre}
-use Rattle.worked.proofs.Tests.{either, left-or, right-or, every, every-passed, below, below-all, below-from, throughout, throughout-in, has, has-in}
+use Rattle.worked.proofs.Tests.{either, is-false, left-or, right-or, every, every-passed, below, below-all, below-from, throughout, throughout-in, has, has-in}
 use Rattle.worked.proofs.Accepted.{accepted?, begins}
 use Rattle.worked.proofs.Hung.{par, hung, hangs?, headAt, rooted, head-is}
 
@@ -26,11 +26,22 @@ module _ (up by : ℕ → ℕ) (s before : List ℕ) (o : Outcome) where
   abbrev right : ℕ → Bool
   right x = eqb (headAt up by s x) (at (o .list) x)
 
+  abbrev written-tests : List Bool
+  written-tests = not (o .refused) ∷ eqb (o .number) 0 ∷ eqb (o .row) 0 ∷ []
+
   abbrev tests : List Bool
-  tests = accepted? s ∷ hangs? up by s ∷ eqb (length before) (nodesOf s) ∷ eqb (o .number) 0 ∷ eqb (o .row) 0 ∷ eqb (length (o .list)) (nodesOf s) ∷ below right (nodesOf s) ∷ []
+  tests = accepted? s ∷ hangs? up by s ∷ eqb (length before) (nodesOf s) ∷ every written-tests ∷ eqb (length (o .list)) (nodesOf s) ∷ below right (nodesOf s) ∷ []
 
   unfoldable pub heads? : Bool
   heads? = every tests
+
+  is-written : T (every written-tests) → o ≡ written (o .list)
+  is-written t =
+      let q = every-passed written-tests t in
+      let f : o .refused ≡ false = is-false (o .refused) (q .0) in
+      let n : o .number ≡ 0 = eqb→eq _ _ (q .1 .0) in
+      let r : o .row ≡ 0 = eqb→eq _ _ (q .1 .1 .0) in
+      λ i. record { refused = f i; number = n i; row = r i; list = o .list }
 
   pub is-heads : T heads? → Headings s before o
   unfolding heads?
@@ -38,10 +49,9 @@ module _ (up by : ℕ → ℕ) (s before : List ℕ) (o : Outcome) where
       let p = every-passed tests t in
       let q = p .1 .1 in
       begins s (p .0) (refusal before) (passed (eqb→eq _ _ (q .0)) (record {
-        number = eqb→eq _ _ (q .1 .0);
-        row = eqb→eq _ _ (q .1 .1 .0);
-        long = eqb→eq _ _ (q .1 .1 .1 .0);
-        each = λ v b. turn v (at (o .list) v) (eqb→eq _ _ (below-all right (nodesOf s) (q .1 .1 .1 .1 .0) v b)) (head-is up by s (p .0) (p .1 .0) v b);
+        is = is-written (q .1 .0);
+        long = eqb→eq _ _ (q .1 .1 .0);
+        each = λ v b. turn v (at (o .list) v) (eqb→eq _ _ (below-all right (nodesOf s) (q .1 .1 .1 .0) v b)) (head-is up by s (p .0) (p .1 .0) v b);
       }))
     where
       turn : (v h : ℕ) → headAt up by s v ≡ h → HeadOf s (nodesOf s) (headAt up by s v) v → HeadOf s (nodesOf s) h v

@@ -4,6 +4,7 @@ use mathlib.Core.Bool.{false}
 use mathlib.Core.List.{List, [], _∷_, _++_}
 use lib.IntN.{pos, negsuc}
 use Rattle.pages.specs.Listing.{entry}
+use Rattle.spines.specs.Heads as S
 use Rattle.marks.specs.Change as M
 use Rattle.answers.specs.Heaviest as H
 use Rattle.worked.specs.Case.{Case, heaviest, listing, heads, leaves, pair, claim}
@@ -48,10 +49,10 @@ cases =
     ∷ heaviest (n5 1) free (H.refusal 16 0)
     ∷ listing (n5 9) free (pos 7) 0 0 (lent ++ lent ++ lent ++ lent) (record { refused = false; number = 0; row = 0; written = 3; left = 0; bytes = three ++ lent })
     ∷ listing (n5 9) free (pos 10) 0 0 lent (record { refused = false; number = 0; row = 0; written = 0; left = 0; bytes = lent })
-    ∷ heads (n5 9) (9 ∷ 9 ∷ 9 ∷ 9 ∷ 9 ∷ []) (record { number = 0; row = 0; list = 0 ∷ 0 ∷ 0 ∷ 3 ∷ 3 ∷ [] })
+    ∷ heads (n5 9) (9 ∷ 9 ∷ 9 ∷ 9 ∷ 9 ∷ []) (S.written (0 ∷ 0 ∷ 0 ∷ 3 ∷ 3 ∷ []))
     ∷ leaves (n5 9) (2 ∷ 4 ∷ [])
     ∷ pair (n5 9) free 2 4 (record { number = 0; row = 0; length = 11; weight = pos 6; hops = 2 })
-    ∷ claim (n5 9) free 7 2 3 (record { number = 0; row = 0; count = 2; marks = held })
+    ∷ claim (n5 9) free 7 2 3 (M.changed held 2)
     ∷ heaviest (n5 9) held (H.found (entry 0 1 4 (pos 5)))
     ∷ claim (n5 9) held 8 1 3 (M.refusal held 19 0)
     ∷ claim (n5 9) free 7 0 3 (M.refusal free 18 0)

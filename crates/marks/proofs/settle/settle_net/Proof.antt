@@ -31,7 +31,7 @@ same-length c = c .before .before .replace .ensures .same-many
 
 returns-4 : tie.Need-returns-4
 returns-4 c = let N : RunNumber (c .before .before .before .before .before .before .before .before .before .args .run) = record { above = omega (arith, c .before .before .before .before .before .if2 .left); below = omega (arith, c .before .before .before .before .if3 .left) } in
-    passed (omega (arith, c .before .before .before .before .before .before .if1 .left, c .before .before .before .before .before .before .before .wide .ensures .0)) (passed N (record { no-number = refl; no-row = refl; marks = holds-held N (c .before .before .replace .ensures) }))
+    passed (omega (arith, c .before .before .before .before .before .before .if1 .left, c .before .before .before .before .before .before .before .wide .ensures .0)) (passed N (record { is = refl; marks = holds-held N (c .before .before .replace .ensures) }))
 
 pub settle-net-spec : {M : Type 1} → statement M
 settle-net-spec =
