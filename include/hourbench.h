@@ -4,7 +4,7 @@
 
        answer[0]     the refusal number, as returned
        answer[1]     the row that a refusal names, from 0; 0 where none is named
-       answer[2]     0, kept for a later field
+       answer[2]     0, reserved
        answer[3..]   the operation's fields, in the order named at each function; zeros after them, and in a refusal
 
    A refusal changes no other memory. What each function promises is proved (docs/PROMISES.md, capi).

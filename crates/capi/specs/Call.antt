@@ -4,7 +4,7 @@ use mathlib.Core.Path.{_≡_}
 use mathlib.Core.List.{List, [], _∷_}
 use lib.IntN.{ℤ, pos}
 
--- the eight numbers of an answer: number, row, 0 (kept for a later field), up to four fields of the operation, 0
+-- the eight numbers of an answer: number, row, 0 (reserved), up to four fields of the operation, 0
 abbrev pub eight : ℕ → ℕ → ℤ → ℤ → ℤ → ℤ → List ℤ
 eight k r a b c d = pos k ∷ pos r ∷ pos 0 ∷ a ∷ b ∷ c ∷ d ∷ pos 0 ∷ []
 

@@ -1,8 +1,12 @@
-// The eight numbers of an answer, written in one place.
+// The eight numbers of an answer, written in one place; and those of claim, commit and abort.
 ghost use mathlib.Core.Path.{_≡_};
+ghost use mathlib.Core.List.{List};
 ghost use lib.IntN.{pos};
-ghost use Prim.Native.Nat.{_<_};
-ghost use Rattle.capi.specs.Call.{eight};
+ghost use Prim.Native.Nat.{ℕ, _<_};
+ghost use Rattle.marks.specs.Change.{outcome};
+ghost use Rattle.capi.specs.Call.{eight, call};
+ghost use Rattle.capi.specs.Shown.{change};
+use marks::Change;
 
 // A number that is not negative, as a signed one.
 pub(crate) fn signed(x: u64) -> i64
@@ -29,4 +33,18 @@ pub(crate) fn fill(
     let r = signed(row as u64);
     *answer = [k, r, 0, f0, f1, f2, f3, 0];
     return number;
+}
+
+// What claim, commit or abort gave: the refusal, or how many marks changed.
+pub(crate) fn show_change(o: Change, answer: &mut [i64; 8]) -> u8
+    requires { ⌜ ((marks : List ℕ) × ((outcome o marks) .row < 4096)) ⌝ }
+    ensures { λ r. ⌜ ((marks : List ℕ) → call r (now (answer .exit)) marks ≡ change (outcome o marks)) ⌝ }
+{
+    match o {
+        Change::Refused(why) => fill(answer, why.number, why.row, 0, 0, 0, 0),
+        Change::Changed(count) => {
+            let k = signed(count as u64);
+            fill(answer, 0, 0, k, 0, 0, 0)
+        }
+    }
 }

@@ -1,16 +1,16 @@
-// The operations for C, Rust and the editor plugin; include/hourbench.h declares them. A `&[u8]` is a pointer and a length to C, an `&mut [i64; 8]` a pointer.
-// Each function returns the refusal number (0: none) and writes all 8 of `answer`: number, row, 0 (kept for a later field), the operation's fields in order, zeros.
+// The operations for C and Rust; include/hourbench.h declares them. A `&[u8]` is a pointer and a length to C, an `&mut [i64; 8]` a pointer.
+// Each function returns the refusal number (0: none) and writes all 8 of `answer`: number, row, 0 (reserved), the operation's fields in order, zeros.
 mod answer;
 
 ghost use mathlib.Core.List.{[]};
 ghost use Rattle.capi.specs.Call.{call};
 ghost use Rattle.capi.specs.Shown.{AcceptCall, PairCall, HeaviestCall, HeadsCall, ListingCall, ClaimCall, CommitCall, AbortCall};
 use answer::fill;
+use answer::show_change;
 use answer::signed;
 use answers::Listed;
 use answers::PairAnswer;
 use answers::Run;
-use marks::Change;
 use spines::HeadsAnswer;
 use tree::Acceptance;
 
@@ -121,13 +121,7 @@ pub extern "C" fn hb_claim(
     ensures { λ r. ⌜ ClaimCall (now (table .entry)) (now (marks .entry)) run a b (call r (now (answer .exit)) (now (marks .exit))) ⌝ }
 {
     let o = marks::claim(table, marks, run, a, b);
-    match o {
-        Change::Refused(why) => fill(answer, why.number, why.row, 0, 0, 0, 0),
-        Change::Changed(count) => {
-            let k = signed(count as u64);
-            fill(answer, 0, 0, k, 0, 0, 0)
-        }
-    }
+    show_change(o, answer)
 }
 
 // Fields: changed; the marks change in place.
@@ -136,13 +130,7 @@ pub extern "C" fn hb_commit(table: &[u8], marks: &mut [u16], run: u16, answer: &
     ensures { λ r. ⌜ CommitCall (now (table .entry)) (now (marks .entry)) run (call r (now (answer .exit)) (now (marks .exit))) ⌝ }
 {
     let o = marks::commit(table, marks, run);
-    match o {
-        Change::Refused(why) => fill(answer, why.number, why.row, 0, 0, 0, 0),
-        Change::Changed(count) => {
-            let k = signed(count as u64);
-            fill(answer, 0, 0, k, 0, 0, 0)
-        }
-    }
+    show_change(o, answer)
 }
 
 // Fields: changed; the marks change in place.
@@ -151,11 +139,5 @@ pub extern "C" fn hb_abort(table: &[u8], marks: &mut [u16], run: u16, answer: &m
     ensures { λ r. ⌜ AbortCall (now (table .entry)) (now (marks .entry)) run (call r (now (answer .exit)) (now (marks .exit))) ⌝ }
 {
     let o = marks::abort(table, marks, run);
-    match o {
-        Change::Refused(why) => fill(answer, why.number, why.row, 0, 0, 0, 0),
-        Change::Changed(count) => {
-            let k = signed(count as u64);
-            fill(answer, 0, 0, k, 0, 0, 0)
-        }
-    }
+    show_change(o, answer)
 }

@@ -1,59 +1,20 @@
--- `hb_commit` shows what the commit gives: a refusal as it stands, or the fields, as signed numbers.
-use mathlib.Core.Path.{refl}
-use native.Mathlib.Omega.{arith}
+-- `hb_commit` shows what the commit gives, by `show_change`.
 use borrow.Author.Needs.{needs}
 use Rattle.capi.proofs.Rows.{settle-low}
-use Rattle.capi.proofs.Stored.{stored, calls}
 use Rattle.capi.proofs.hb_commit.Statement.{statement}
 use Rattle.capi.proofs.hb_commit.Tie as tie
 
 commit-requires : tie.Need-commit-requires
 commit-requires c κs = search needs
 
-enum-known-o : tie.Need-enum-known-o
-enum-known-o c = search needs
-
-fill-requires : tie.Need-fill-requires
-fill-requires c κs = settle-low _ _ _ _ _ (rw (c .before .before .o .given .1) at (c .before .before .before .before .before .before .commit .ensures))
-
-enum-known-o-2 : tie.Need-enum-known-o-2
-enum-known-o-2 c = search needs
-
-cast-signed : tie.Need-cast-signed
-cast-signed c = search needs
-
-signed-requires : tie.Need-signed-requires
-signed-requires c κs = search needs
-
-fill-requires-2 : tie.Need-fill-requires-2
-fill-requires-2 c κs = search needs
+show-change-requires : tie.Need-show-change-requires
+show-change-requires c κs = (_, settle-low _ _ _ _ _ (c .before .before .before .commit .ensures))
 
 same-length : tie.Need-same-length
 same-length c = search needs
 
 returns : tie.Need-returns
-returns c = record { outcome = _; promise = rw (c .before .before .before .o .given .1) at (c .before .before .before .before .before .before .before .commit .ensures); shown = calls (c .fill .ensures .0) (c .fill .ensures .1) refl }
-
-same-length-2 : tie.Need-same-length-2
-same-length-2 c = search needs
-
-returns-2 : tie.Need-returns-2
-returns-2 c =
-    let a = stored _ _ (c .before .before .signed .ensures) (omega arith) in
-    record { outcome = _; promise = rw (c .before .before .before .before .o2 .given .1) at (c .before .before .before .before .before .before .before .before .commit .ensures); shown = calls (c .fill2 .ensures .0) (rw a at (c .fill2 .ensures .1)) refl }
+returns c = record { outcome = _; promise = c .before .before .before .before .commit .ensures; shown = c .show-change .ensures _ }
 
 pub hb-commit-spec : {M : Type 1} → statement M
-hb-commit-spec =
-    tie.close
-    (tie.spec
-    commit-requires
-    enum-known-o
-    fill-requires
-    enum-known-o-2
-    cast-signed
-    signed-requires
-    fill-requires-2
-    same-length
-    returns
-    same-length-2
-    returns-2)
+hb-commit-spec = tie.close (tie.spec commit-requires show-change-requires same-length returns)
