@@ -3,7 +3,7 @@
 use mathlib.Core.Path.{_≡_, refl, sym, ap, _∙_}
 use mathlib.Core.Logic.{_⊎_, inl, inr, _≢_, ⊎-elim}
 use mathlib.Core.List.{List, [], _∷_, _++_, append-assoc, append-nil}
-use Prim.Native.Nat.{ℕ, _+_, _*_, _≤_, _<_}
+use Prim.Native.Nat.{ℕ, _+_, _≤_, _<_}
 use native.Mathlib.Omega.{arith}
 use lib.ListN.{length}
 use Rattle.tree.specs.Members.{In, at, past}
@@ -31,7 +31,7 @@ module _ {par row : ℕ → ℕ} {t : ℕ} where
   rise-next n (work.up {rs = rest} z e h) = (z, rest, refl, rw e h)
 
 module _ {u v : ℕ → ℕ} {k n : ℕ} {par row place : ℕ → ℕ} (R : Rooted u v k n par row place) where
-  -- it has fewer rows than its node's place
+  -- a climb has no more rows than there are places from its end to its node
   pub rise-short : {t x : ℕ} {rs : List ℕ} → x < n → Rise par row t x rs → length rs + place t ≤ place x
   rise-short b work.here = omega arith
   rise-short {x = x} b (work.up z e h) = omega (arith, rw e at (R .earlier x b z), rise-short (rw e at (R .par-fits x b z)) h)

@@ -1,6 +1,7 @@
--- The operation heads: from the heads by the walk's arrays to those of the net; and its promise allows one outcome.
+-- The operation heads: from the heads by the walk's arrays to those of the net; its promise allows one outcome, and an outcome is that of one answer.
 use Prim.Native.Nat.{ℕ, _-_}
 use mathlib.Core.Path.{_≡_, refl, sym, ap, _∙_}
+use mathlib.Core.Bool.{cond}
 use mathlib.Core.List.{List}
 use native.Mathlib.Omega.{arith}
 use lib.ListN.{length}
@@ -14,10 +15,11 @@ use Rattle.tree.specs.Walked.{Walked}
 use Rattle.tree.proofs.Grown.{grown-tree}
 use Rattle.tree.proofs.NetWalk.{walk-grown, walk-rooted}
 use Rattle.tree.proofs.Begins.{begins-net-only}
-use Rattle.spines.specs.Heads.{refusal, written, outcome, Heads, Lists, Headings}
+use Rattle.spines.specs.Heads.{Outcome, refusal, written, outcome, Heads, Lists, Headings}
 use Rattle.spines.specs.Parents.{HeadsAll}
 use Rattle.spines.specs.Work.{Copied}
-use Rattle.spines.specs.declared.HeadsAnswer.the-variants.{Written}
+use Rattle.spines.specs.declared.HeadsAnswer.{HeadsAnswer}
+use Rattle.spines.specs.declared.HeadsAnswer.the-variants.{Written, Refused}
 use Rattle.spines.proofs.Net.{head-net, net-head-only}
 
 pub heads-listed : (s : List ℕ) (n : ℕ) {parent half order place head before list : List ℕ} → Net s n → Walked (firstEnd s) (secondEnd s) (n - 1) n parent half order place
@@ -38,3 +40,10 @@ heads-one s n t x y p q =
 
 pub heads-only : (s before : List ℕ) → Only (Headings s before)
 heads-only s before = begins-net-only (refusal before) s (λ t. unless-only (heads-one s (nodesOf s) t))
+
+-- so the promise determines the answer itself: an outcome is that of one answer
+pub heads-answer-one : (x y : HeadsAnswer) (l m : List ℕ) → outcome x l ≡ outcome y m → x ≡ y
+heads-answer-one Written Written l m e = refl
+heads-answer-one Written (Refused w) l m e = let f : _≡_ {A = ℕ} 0 1 = ap (λ (o : Outcome). cond (o .refused) 1 0) e in absurd (omega (arith, f))
+heads-answer-one (Refused w) Written l m e = let f : _≡_ {A = ℕ} 1 0 = ap (λ (o : Outcome). cond (o .refused) 1 0) e in absurd (omega (arith, f))
+heads-answer-one (Refused w) (Refused v) l m e = λ i. Refused (record { number = e i .number; row = e i .row })
