@@ -14,7 +14,7 @@ use Rattle.tree.specs.Walked.{Walked}
 use Rattle.tree.proofs.NetWalk.{walk-grown, walk-rooted}
 use Rattle.paths.specs.Ground.{Ground}
 use Rattle.marks.specs.Weighs.{weightUnder}
-use Rattle.answers.specs.Work.{Readable, Branches}
+use Rattle.answers.specs.Work.{Readable, Branches, Grounded}
 
 module _ {s marks half : List ℕ} where
   pub branches-none : {bl bw : List ℕ} → Filled 4096 0 bl → Filled 4096 0 bw → Branches s marks half 1 bl bw
@@ -50,26 +50,25 @@ module _ {s marks half : List ℕ} where
   pub branches-all : {n i : ℕ} {bl bw : List ℕ} → n ≤ i → Branches s marks half i bl bw → Branches s marks half n bl bw
   branches-all h b = record { length-is = λ x c z. b .length-is x (omega arith) z; weight-is = λ x c z. b .weight-is x (omega arith) z; light = λ x c z. b .light x (omega arith) z; bl-long = b .bl-long; bw-long = b .bw-long }
 
-module _ {s : List ℕ} {n : ℕ} {parent half order place : List ℕ} (t : Net s n) (w : Walked (firstEnd s) (secondEnd s) (n - 1) n parent half order place) where
-  pub readable : Readable s n half
-  readable = record { net = t; row = λ x b z. walk-rooted t w .row-fits x b z }
+pub readable : {s : List ℕ} {n : ℕ} {parent half order place : List ℕ} → Net s n → Walked (firstEnd s) (secondEnd s) (n - 1) n parent half order place → Readable s n half
+readable t w = record { net = t; row = λ x b z. walk-rooted t w .row-fits x b z }
 
-  -- the ground of an accepted net under its marks
-  abbrev pub ground : {marks bl bw : List ℕ} → Branches s marks half n bl bw → Ground n parent order place bl bw
-  ground {marks} b = record {
-    u = firstEnd s;
-    v = secondEnd s;
-    k = n - 1;
-    long = lengthOf s;
-    heavy = weightUnder s marks;
-    row = λ x. at half x / 2;
-    grown = walk-grown t w;
-    rooted = walk-rooted t w;
-    length-is = b .length-is;
-    short = λ x c z. rw (b .length-is x c z) (t .short (at half x / 2) (walk-rooted t w .row-fits x c z));
-    weight-is = b .weight-is;
-    light = b .light;
-  }
+-- the ground of an accepted net under its marks
+abbrev pub ground : {s marks : List ℕ} {n : ℕ} {parent order place bl bw : List ℕ} → Grounded s marks n parent order place bl bw → Ground n parent order place bl bw
+ground {s} {marks} {n} q = record {
+  u = firstEnd s;
+  v = secondEnd s;
+  k = n - 1;
+  long = lengthOf s;
+  heavy = weightUnder s marks;
+  row = λ x. at (q .half) x / 2;
+  grown = walk-grown (q .net) (q .walked);
+  rooted = walk-rooted (q .net) (q .walked);
+  length-is = q .branches .length-is;
+  short = λ x c z. rw (q .branches .length-is x c z) (q .net .short (at (q .half) x / 2) (walk-rooted (q .net) (q .walked) .row-fits x c z));
+  weight-is = q .branches .weight-is;
+  light = q .branches .light;
+}
 
 -- the row that the code reads at node x
 pub row-in : {s half : List ℕ} {n x h : ℕ} → Readable s n half → 0 < x → x < n → h ≡ at half x → h / 2 < n - 1

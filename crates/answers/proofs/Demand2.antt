@@ -3,14 +3,17 @@
 -- abort change: marks' proofs/Theorems.)
 use Prim.Native.Nat.{ℕ, _-_, _≤_, _<_}
 use mathlib.Core.Path.{_≡_, refl, ap, _∙_}
+use mathlib.Core.Logic.{_↔_}
 use mathlib.Core.List.{List}
 use native.Mathlib.Omega.{arith}
 use lib.ListN.{length}
 use lib.Signed.{_≤ℤ_}
 use Rattle.table.specs.Refuse.{refused, passed}
 use Rattle.table.specs.Header.{nodesOf, boundOf}
+use Rattle.table.specs.Outcome.{found as accepted}
 use Rattle.table.proofs.Refusals.{past}
-use Rattle.tree.proofs.Begins.{begins-past}
+use Rattle.tree.specs.Accept.{Accepts}
+use Rattle.tree.proofs.Begins.{begins-past, begins-rest}
 use Rattle.pages.specs.Listing.{Entry}
 use Rattle.answers.specs.Heaviest.{Outcome, refusal, found, Runs, Heaviest, Goes, HeaviestOf}
 
@@ -33,13 +36,16 @@ module _ (s marks : List ℕ) where
   pub none-heavier : (e : Entry) → Heaviest (InReach s marks) e → (f : Entry) → InReach s marks f → f .weight ≤ℤ e .weight
   none-heavier e h f p = h .best f p .weight
 
-  -- SIXTEEN EXACTLY. Past 1 to 12, with a mark for each branch: 16 if no pair is within the bound, and only then
-  pub sixteen-if : (o : Outcome) → length marks ≡ nodesOf s - 1 → Goes (λ l. l ≤ boundOf s) s (nodesOf s) marks o → ((e : Entry) → InReach s marks e → ⊥) → o ≡ refusal 16 0
-  sixteen-if o m (refused c) none = absurd (c m)
-  sixteen-if o m (passed k (refused c)) none = refl
-  sixteen-if o m (passed k (passed j g)) none = absurd (none (j .0) (j .1))
+  -- SIXTEEN EXACTLY. An accepted table with a mark for each branch is refused by 16 exactly if no pair is within the bound
+  pub sixteen-exactly : Accepts s (accepted (nodesOf s) (boundOf s)) → length marks ≡ nodesOf s - 1 → (o : Outcome) → HeaviestOf s marks o → (o .number ≡ 16) ↔ ((e : Entry) → ¬ InReach s marks e)
+  sixteen-exactly a m o p = let g = begins-rest refusal s a p in (only o g, if o g)
+    where
+      if : (o : Outcome) → Goes (λ l. l ≤ boundOf s) s (nodesOf s) marks o → ((e : Entry) → ¬ InReach s marks e) → o .number ≡ 16
+      if o (refused c) none = absurd (c m)
+      if o (passed k (refused c)) none = refl
+      if o (passed k (passed j g)) none = absurd (none (j .0) (j .1))
 
-  pub sixteen-only : (o : Outcome) → Goes (λ l. l ≤ boundOf s) s (nodesOf s) marks o → o .number ≡ 16 → (e : Entry) → InReach s marks e → ⊥
-  sixteen-only o (refused c) z e p = omega (arith, z)
-  sixteen-only o (passed k (refused c)) z e p = c (e, p)
-  sixteen-only o (passed k (passed j g)) z e p = omega (arith, z, ap (λ (x : Outcome). x .number) (g .is))
+      only : (o : Outcome) → Goes (λ l. l ≤ boundOf s) s (nodesOf s) marks o → o .number ≡ 16 → (e : Entry) → ¬ InReach s marks e
+      only o (refused c) z e p = omega (arith, z)
+      only o (passed k (refused c)) z e p = c (e, p)
+      only o (passed k (passed j g)) z e p = omega (arith, z, ap (λ (x : Outcome). x .number) (g .is))

@@ -1,8 +1,9 @@
 -- DEMAND 3 of the operation listing: for one table, one set of marks and any floor, calls from (0, 0) until none is left, each lending 16 bytes or more, each going on after the last row given, write the whole listing: every qualifying pair, lower node first, each once, in order. Over any length test; today's is "at most B".
-use Prim.Native.Nat.{ℕ, _+_, _≤_, _<_}
+use Prim.Native.Nat.{ℕ, zero, suc, _+_, _≤_, _<_}
 use mathlib.Core.Path.{_≡_, ap, _∙_}
 use mathlib.Core.List.{List, _++_}
 use native.Mathlib.Omega.{arith}
+use native.Mathlib.Decide.{decLt}
 use lib.IntN.{ℤ}
 use lib.ListN.{length}
 use Rattle.table.specs.Header.{nodesOf}
@@ -17,7 +18,7 @@ use Rattle.pages.proofs.Calls.{paged-written}
 use Rattle.pages.proofs.Demand3 as pages
 use Rattle.answers.specs.PathOf.{PathOf}
 use Rattle.answers.specs.Listing.{Outcome, ListingWithin}
-use Rattle.answers.specs.Asks.{lastLow, lastHigh, Asks, last, next}
+use Rattle.answers.specs.Asks.{written, lastLow, lastHigh, Asks, last, next}
 use Rattle.answers.proofs.ListingOnly.{listing-page}
 
 -- what a listing of the table s considers
@@ -51,9 +52,35 @@ module _ (Within : ℕ → Type 0) (s marks : List ℕ) (floor : ℤ) where
   pub add-up : {low high : ℕ} {old : List ℕ} {x : Outcome} {whole : List Entry} → ListingWithin Within s marks floor low high old x → x .number ≡ 0 → Listing (Following (Considered Within s marks floor) low high) whole → x .written + x .left ≡ length whole
   add-up p z w = pages.calls-add-up (listing-page Within s marks floor _ _ _ _ z p .1) w
 
-  -- The calls come to their end: each leaves fewer than the one before.
+  -- Each call leaves fewer than the one before.
   pub fewer-left : {low high : ℕ} {old old₂ : List ℕ} {x y : Outcome} → 16 ≤ length old → ListingWithin Within s marks floor low high old x → x .number ≡ 0 → 0 < x .left
       → 16 ≤ length old₂ → ListingWithin Within s marks floor (lastLow x) (lastHigh x) old₂ y → y .number ≡ 0 → y .left < x .left
   fewer-left h p z l h₂ q z₂ =
       let n = listing-page Within s marks floor _ _ _ _ z p in
       pages.fewer-left (omega (arith, n .0 .few)) h (n .1) l h₂ (listing-page Within s marks floor _ _ _ _ z₂ q .1)
+
+  -- A call writes at least one row where some pair follows its start: no page is empty before the listing's end.
+  pub writes-some : {low high : ℕ} {old : List ℕ} {x : Outcome} → 16 ≤ length old → ListingWithin Within s marks floor low high old x → x .number ≡ 0 → (e : Entry) → Following (Considered Within s marks floor) low high e → 0 < x .written
+  writes-some h p z e f = pages.calls-some h (listing-page Within s marks floor _ _ _ _ z p .1) f
+
+  -- Where every call from two 16-bit numbers is answered and none refused, calls from any such start come to the end, whatever each of them lends.
+  module _ (lent : ℕ → List ℕ) (enough : (i : ℕ) → 16 ≤ length (lent i)) (answer : (i low high : ℕ) → low < 65536 → high < 65536 → (x : Outcome) × ListingWithin Within s marks floor low high (lent i) x × (x .number ≡ 0)) where
+    from : (k i low high : ℕ) (a : low < 65536) (b : high < 65536) → answer i low high a b .0 .left ≤ k → (joined : List ℕ) × Asks Within s marks floor low high joined
+    from zero i low high a b h = let x = answer i low high a b in (written (x .0), last (enough i) (x .1) (x .2) (omega arith))
+    from (suc k) i low high a b h = pick (answer i low high a b) h (from k (i + 1))
+      where
+        pick : (x : (x : Outcome) × ListingWithin Within s marks floor low high (lent i) x × (x .number ≡ 0)) → x .0 .left ≤ suc k
+            → ((low high : ℕ) (a : low < 65536) (b : high < 65536) → answer (i + 1) low high a b .0 .left ≤ k → (joined : List ℕ) × Asks Within s marks floor low high joined) → (joined : List ℕ) × Asks Within s marks floor low high joined
+        pick x h ih = or (decLt 0 (x .0 .left))
+          where
+            or : Dec (0 < x .0 .left) → (joined : List ℕ) × Asks Within s marks floor low high joined
+            or (no m) = (written (x .0), last (enough i) (x .1) (x .2) (omega arith))
+            or (yes l) =
+                let n = listing-page Within s marks floor _ _ _ _ (x .2) (x .1) in
+                let start = pages.next-start (omega (arith, n .0 .few)) (enough i) (n .1) l in
+                let y = answer (i + 1) (lastLow (x .0)) (lastHigh (x .0)) (start .0) (start .1) in
+                let r = ih (lastLow (x .0)) (lastHigh (x .0)) (start .0) (start .1) (omega (arith, fewer-left (enough i) (x .1) (x .2) l (enough (i + 1)) (y .1) (y .2))) in
+                (written (x .0) ++ r .0, next (enough i) (x .1) (x .2) l (r .1))
+
+    pub come-to-an-end : (low high : ℕ) → low < 65536 → high < 65536 → (joined : List ℕ) × Asks Within s marks floor low high joined
+    come-to-an-end low high a b = from (answer 0 low high a b .0 .left) 0 low high a b (omega arith)

@@ -5,7 +5,7 @@ use mathlib.Core.List.{List, [], _∷_}
 use native.Mathlib.Omega.{arith}
 use lib.IntN.{ℤ}
 use lib.ListN.{length, length-append}
-use Rattle.pages.specs.Listing.{Entry, After, first, second, Before, In, at, past, Rising, more}
+use Rattle.pages.specs.Listing.{Entry, first, second, Before, In, at, past, Rising, more}
 use Rattle.pages.proofs.Rows.{rows-length}
 use Rattle.answers.specs.Listing.{Outcome, ListingOf}
 use Rattle.answers.proofs.ListingOnly.{listing-page}

@@ -3,7 +3,6 @@ use Prim.Native.Nat.{ℕ}
 use mathlib.Core.Path.{_≡_}
 use mathlib.Core.List.{List}
 use lib.ListN.{length}
-use Rattle.table.specs.Header.{nodesOf}
 use Rattle.table.specs.Refuse.{Unless, refused, passed}
 use Rattle.table.proofs.Refusals.{unless-map, first-bad-map}
 use Rattle.table.proofs.Accepted.{tested-map}

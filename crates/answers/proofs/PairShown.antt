@@ -6,8 +6,7 @@ use native.Mathlib.Omega.{arith}
 use lib.IntN.{ℤ}
 use Rattle.arrays.specs.Filled.{at}
 use Rattle.table.specs.Lift.{LoweredOf}
-use Rattle.tree.specs.Net.{firstEnd, secondEnd, Net}
-use Rattle.tree.specs.Walked.{Walked}
+use Rattle.tree.specs.Net.{firstEnd, secondEnd, TwoNodes}
 use Rattle.tree.specs.Grown.{Grown}
 use Rattle.tree.proofs.NetWalk.{walk-grown, walk-rooted}
 use Rattle.tree.proofs.Short.{path-short}
@@ -15,42 +14,34 @@ use Rattle.spines.specs.Parents.{HeadsAll, Spined, HopsBy}
 use Rattle.paths.specs.Ground.{Ground}
 use Rattle.paths.specs.Paths.{Begun}
 use Rattle.answers.specs.PathOf.{PathOf}
-use Rattle.answers.specs.Pair.{TwoNodes, outcome, Shows}
-use Rattle.answers.specs.Work.{Branches, Readable, WayOf}
+use Rattle.answers.specs.Pair.{outcome, Shows}
+use Rattle.answers.specs.Work.{Grounded, WayOf}
 use Rattle.answers.specs.declared.between.PairAnswer.the-variants.{Found}
-use Rattle.answers.proofs.Branching.{readable, ground}
+use Rattle.answers.proofs.Branching.{ground}
 
 -- the code works with n, x and y, which are the numbers nodes, a and b made wide
-module _ {s parent half order place : List ℕ} {n x y nodes a b : ℕ} (e : n ≡ nodes) (ex : x ≡ a) (ey : y ≡ b) (given-net : Net s nodes) (two : TwoNodes nodes a b)
-    (given-walk : Walked (firstEnd s) (secondEnd s) (nodes - 1) nodes parent half order place) where
-  net : Net s n
-  net = rw e given-net
-
-  walked : Walked (firstEnd s) (secondEnd s) (n - 1) n parent half order place
-  walked = rw e given-walk
+module _ {s marks parent order place bl bw : List ℕ} {n x y nodes a b : ℕ} (e : n ≡ nodes) (ex : x ≡ a) (ey : y ≡ b) (two : TwoNodes nodes a b) (given : Grounded s marks nodes parent order place bl bw) where
+  stands : Grounded s marks n parent order place bl bw
+  stands = rw e given
 
   low : (x < n) × (y < n)
   low = (omega (arith, two .first), omega (arith, two .second))
 
-  pub pair-readable : Readable s n half
-  pair-readable = readable net walked
-
   pub pair-grown : Grown n parent order place
-  pair-grown = walk-grown net walked
+  pair-grown = walk-grown (stands .net) (stands .walked)
 
   pub pair-spined : {head : List ℕ} → HeadsAll n parent head → Spined n parent place head × (x < n) × (y < n)
   pair-spined h = (record { order = order; grown = pair-grown; heads = h }, low .0, low .1)
 
-  module _ {marks bl bw : List ℕ} (read : Branches s marks half n bl bw) where
-    pub pair-begun : Begun n x parent order place bl bw × (y < n)
-    pair-begun = (record { ground = ground net walked read; node = low .0 }, low .1)
+  pub pair-begun : Begun n x parent order place bl bw × (y < n)
+  pair-begun = (record { ground = ground stands; node = low .0 }, low .1)
 
-    module _ {l q : ℕ} (way : (g : Ground n parent order place bl bw) → WayOf g x y l q) {w : ℤ} (lower : LoweredOf q w) where
-      path : PathOf s marks n x y l w
-      path = let f = way (ground net walked read) in f .value w (lower .back (f .small))
+  module _ {l q : ℕ} (way : (g : Ground n parent order place bl bw) → WayOf g x y l q) {w : ℤ} (lower : LoweredOf q w) where
+    path : PathOf s marks n x y l w
+    path = let f = way (ground stands) in f .value w (lower .back (f .small))
 
-      pub pair-short : l ≤ 4095000000
-      pair-short = path-short net (low .0) path
+    pub pair-short : l ≤ 4095000000
+    pair-short = path-short (stands .net) (low .0) path
 
-      pub pair-shown : {h : ℕ} → HopsBy n parent place x y h → Shows s marks nodes a b (outcome (Found l w h))
-      pair-shown h = rw (← e, ← ex, ← ey) (record { number = refl; row = refl; path = path; hops = h .hops (firstEnd s) (secondEnd s) (n - 1) (λ v. at half v / 2) (walk-rooted net walked) })
+    pub pair-shown : {h : ℕ} → HopsBy n parent place x y h → Shows s marks nodes a b (outcome (Found l w h))
+    pair-shown h = rw (← e, ← ex, ← ey) (record { number = refl; row = refl; path = path; hops = h .hops (firstEnd s) (secondEnd s) (n - 1) (λ v. at (stands .half) v / 2) (walk-rooted (stands .net) (stands .walked)) })

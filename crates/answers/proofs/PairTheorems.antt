@@ -8,14 +8,14 @@ use Rattle.table.specs.Header.{nodesOf}
 use Rattle.table.proofs.Refusals.{past, unless-map, first-bad-map}
 use Rattle.table.proofs.Accepted.{tested-map}
 use Rattle.tree.specs.Count.{Count}
-use Rattle.tree.specs.Net.{firstEnd, secondEnd, Net}
+use Rattle.tree.specs.Net.{firstEnd, secondEnd, Net, TwoNodes}
 use Rattle.tree.proofs.Begins.{begins-past}
 use Rattle.tree.proofs.Flip.{value-flip}
 use Rattle.spines.specs.Spine.{ChildOf, Leaf}
 use Rattle.spines.specs.Hops.{FloorLog}
 use Rattle.spines.proofs.HopsBound.{hops-flip}
 use Rattle.spines.proofs.Theorems.{hops-at-most}
-use Rattle.answers.specs.Pair.{Outcome, refusal, TwoNodes, Shows, PairOf}
+use Rattle.answers.specs.Pair.{Outcome, refusal, Shows, PairOf}
 use Rattle.answers.proofs.PairOnly.{pair-only}
 
 module _ (s marks : List ℕ) (a b : ℕ) (x : Outcome) (z : x .number ≡ 0) (p : PairOf s marks a b x) where

@@ -1,13 +1,11 @@
 -- The scan over the first nodes: what it keeps, one first node more, and the page at its end.
-use Prim.Native.Nat.{ℕ, _+_, _-_, _*_, _/_, _≤_, _<_}
+use Prim.Native.Nat.{ℕ, _+_, _*_, _/_, _≤_, _<_}
 use mathlib.Core.Path.{_≡_, refl, _∙_}
 use mathlib.Core.List.{List}
 use native.Mathlib.Omega.{arith}
 use lib.IntN.{ℤ}
 use lib.ListN.{length}
 use Rattle.arrays.specs.Filled.{at}
-use Rattle.tree.specs.Net.{firstEnd, secondEnd, Net}
-use Rattle.tree.specs.Walked.{Walked}
 use Rattle.tree.proofs.Values.{length-only, weight-only}
 use Rattle.pages.specs.Passes.{Qualifies}
 use Rattle.pages.specs.Calls.{Paged}
@@ -16,7 +14,7 @@ use Rattle.pages.proofs.Firsts.{Sofar, Single, sofar-none, sofar-more, sofar-pa
 use Rattle.paths.specs.Ground.{Ground}
 use Rattle.paths.specs.Paths.{Paths}
 use Rattle.answers.specs.PathOf.{PathOf}
-use Rattle.answers.specs.Work.{ValueIn, Branches}
+use Rattle.answers.specs.Work.{ValueIn, Grounded}
 use Rattle.answers.proofs.Branching.{ground}
 
 -- one path, one value
@@ -68,10 +66,8 @@ module _ {n : ℕ} {parent order place bl bw : List ℕ} {Within : ℕ → Type 
     scanning-end b g = sofar-paged b (c .sofar g)
 
 -- what a scan of n nodes gives of any ground, it gives of the accepted net's own
-pub scanned : {s marks parent half order place bl bw : List ℕ} {n nodes : ℕ} {Within : ℕ → Type 0} {floor : ℤ} {low high given left : ℕ} {old now : List ℕ} → n ≡ nodes → Net s nodes
-    → Walked (firstEnd s) (secondEnd s) (nodes - 1) nodes parent half order place → Branches s marks half n bl bw
+pub scanned : {s marks parent order place bl bw : List ℕ} {n nodes : ℕ} {Within : ℕ → Type 0} {floor : ℤ} {low high given left : ℕ} {old now : List ℕ} → n ≡ nodes → Grounded s marks nodes parent order place bl bw
     → ((g : Ground n parent order place bl bw) → Paged (Qualifies (ValueIn g) Within floor n) low high old given left now) → Paged (Qualifies (PathOf s marks nodes) Within floor nodes) low high old given left now
-scanned {s} {parent = parent} {half = half} {order = order} {place = place} {n = n} e t w b f =
-    let t₁ : Net s n = rw e t in
-    let w₁ : Walked (firstEnd s) (secondEnd s) (n - 1) n parent half order place = rw e w in
-    rw e at (f (ground t₁ w₁ b))
+scanned {s} {marks} {parent} {order} {place} {bl} {bw} {n} e q f =
+    let q₁ : Grounded s marks n parent order place bl bw = rw e q in
+    rw e at (f (ground q₁))

@@ -8,7 +8,7 @@ use lib.Signed.{_≤ℤ_}
 use Rattle.table.specs.Refuse.{Unless}
 use Rattle.table.specs.Header.{nodesOf, boundOf}
 use Rattle.tree.specs.Accept.{Begins}
-use Rattle.pages.specs.Listing.{Entry, Before}
+use Rattle.pages.specs.Listing.{Entry, entry, Before}
 use Rattle.pages.specs.Passes.{Passes}
 use Rattle.answers.specs.PathOf.{PathOf}
 use Rattle.answers.specs.declared.best.Run.{Run}
@@ -31,7 +31,7 @@ abbrev pub found : Entry → Outcome
 found e = record { number = 0; row = 0; low = e .low; high = e .high; length = e .length; weight = e .weight }
 
 abbrev pub outcome : Run → Outcome
-outcome (Between a b l w) = record { number = 0; row = 0; low = a; high = b; length = l; weight = w }
+outcome (Between a b l w) = found (entry a b l w)
 outcome (Refused r) = refusal (r .number) (r .row)
 
 -- the pairs of the net of n nodes within the length test, of any weight

@@ -1,13 +1,12 @@
 -- The operation pair: refusals 1 to 12, then 13 and 15; then length, weight and hops of the path from one node to the other, in either order. A path longer than B is shown.
-use Prim.Native.Nat.{ℕ, _-_, _<_}
+use Prim.Native.Nat.{ℕ, _-_}
 use mathlib.Core.Path.{_≡_}
-use mathlib.Core.Logic.{_≢_}
 use mathlib.Core.List.{List}
 use lib.IntN.{ℤ, pos}
 use lib.ListN.{length}
 use Rattle.table.specs.Refuse.{Unless}
 use Rattle.table.specs.Header.{nodesOf}
-use Rattle.tree.specs.Net.{firstEnd, secondEnd}
+use Rattle.tree.specs.Net.{firstEnd, secondEnd, TwoNodes}
 use Rattle.tree.specs.Accept.{Begins}
 use Rattle.spines.specs.Hops.{Hops}
 use Rattle.answers.specs.PathOf.{PathOf}
@@ -29,12 +28,6 @@ refusal k r = record { number = k; row = r; length = 0; weight = pos 0; hops = 0
 abbrev pub outcome : PairAnswer → Outcome
 outcome (Found l w h) = record { number = 0; row = 0; length = l; weight = w; hops = h }
 outcome (Refused why) = refusal (why .number) (why .row)
-
--- two different nodes
-pub record TwoNodes (n a b : ℕ) : Type 0 where
-  pub first : a < n
-  pub second : b < n
-  pub apart : a ≢ b
 
 -- the path from a to b: its length, its weight under the marks, and how many different spines it touches
 pub record Shows (s marks : List ℕ) (n a b : ℕ) (x : Outcome) : Type 0 where

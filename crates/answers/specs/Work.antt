@@ -7,8 +7,9 @@ use lib.IntN.{ℤ}
 use lib.ListN.{length}
 use Rattle.arrays.specs.Filled.{at}
 use Rattle.table.specs.Signed.{Diff}
-use Rattle.tree.specs.Net.{lengthOf, Net}
+use Rattle.tree.specs.Net.{firstEnd, secondEnd, lengthOf, Net}
 use Rattle.tree.specs.Value.{Value}
+use Rattle.tree.specs.Walked.{Walked}
 use Rattle.paths.specs.Ground.{Ground}
 use Rattle.marks.specs.Weighs.{weightUnder}
 
@@ -28,6 +29,13 @@ pub record Branches (s marks : List ℕ) (half : List ℕ) (i : ℕ) (bl bw : Li
   pub light : (x : ℕ) → x < i → x ≢ 0 → at bw x ≤ 2000000
   pub bl-long : length bl ≡ 4096
   pub bw-long : length bw ≡ 4096
+
+-- what a sweep over an accepted net stands on: its walk, and its branches under the marks
+pub record Grounded (s marks : List ℕ) (n : ℕ) (parent order place bl bw : List ℕ) : Type 0 where
+  pub net : Net s n
+  pub half : List ℕ
+  pub walked : Walked (firstEnd s) (secondEnd s) (n - 1) n parent half order place
+  pub branches : Branches s marks half n bl bw
 
 -- the path from x to y has length l and lifted weight q
 pub record WayOf {n : ℕ} {parent order place bl bw : List ℕ} (g : Ground n parent order place bl bw) (x y l q : ℕ) : Type 0 where

@@ -4,7 +4,7 @@ ghost use Rattle.tree.specs.Net.{Net};
 ghost use Rattle.places.specs.Heaviest.{Heaviest};
 ghost use Rattle.answers.specs.Heaviest.{outcome, Goes, HeaviestOf};
 ghost use Rattle.answers.specs.PathOf.{PathOf};
-use crate::ground::branches;
+use crate::ground::grounded;
 use lists::Best;
 use table::Refusal;
 use tree::Acceptance;
@@ -26,14 +26,21 @@ fn search(s: &[u8], marks: &[u16], nodes: u16, bound: u32) -> Best
     ensures { λ r. ⌜ Heaviest (PathOf (now (s .entry)) (now (marks .entry)) nodes) nodes bound r ⌝ }
 {
     let mut parent: [u16; 4096] = [4096; 4096];
-    let mut half: [u16; 4096] = [0; 4096];
     let mut order: [u16; 4096] = [0; 4096];
     let mut place: [u16; 4096] = [0; 4096];
     let mut bl: [u64; 4096] = [0; 4096];
     let mut bw: [u64; 4096] = [0; 4096];
-    tree::walk(s, nodes, &mut parent, &mut half, &mut order, &mut place);
+    grounded(
+        s,
+        marks,
+        nodes,
+        &mut parent,
+        &mut order,
+        &mut place,
+        &mut bl,
+        &mut bw,
+    );
     let n = arrays::wide(nodes);
-    branches(s, marks, &half, n, &mut bl, &mut bw);
     places::heaviest_pair(&parent, &order, &place, &bl, &bw, n, arrays::long(bound))
 }
 

@@ -1,12 +1,11 @@
 // The operation pair: the path between two nodes, its length, its weight under the marks, and the spines that it touches.
-ghost use mathlib.Core.Path.{_≡_};
 ghost use Prim.Native.Nat.{_<_};
-ghost use Rattle.tree.specs.Net.{Net};
+ghost use Rattle.tree.specs.Net.{Net, TwoNodes};
 ghost use Rattle.paths.specs.Ground.{Ground};
 ghost use Rattle.paths.specs.Paths.{Begun};
-ghost use Rattle.answers.specs.Pair.{outcome, TwoNodes, Shows, Measures, PairOf};
+ghost use Rattle.answers.specs.Pair.{outcome, Shows, Measures, PairOf};
 ghost use Rattle.answers.specs.Work.{WayOf};
-use crate::ground::branches;
+use crate::ground::grounded;
 use table::Refusal;
 use tree::Acceptance;
 
@@ -54,7 +53,6 @@ fn show(s: &[u8], marks: &[u16], nodes: u16, a: u16, b: u16) -> PairAnswer
     ensures { λ r. ⌜ Shows (now (s .entry)) (now (marks .entry)) nodes a b (outcome r) ⌝ }
 {
     let mut parent: [u16; 4096] = [4096; 4096];
-    let mut half: [u16; 4096] = [0; 4096];
     let mut order: [u16; 4096] = [0; 4096];
     let mut place: [u16; 4096] = [0; 4096];
     let mut bl: [u64; 4096] = [0; 4096];
@@ -63,8 +61,16 @@ fn show(s: &[u8], marks: &[u16], nodes: u16, a: u16, b: u16) -> PairAnswer
     let n = arrays::wide(nodes);
     let x = arrays::wide(a);
     let y = arrays::wide(b);
-    tree::walk(s, nodes, &mut parent, &mut half, &mut order, &mut place);
-    branches(s, marks, &half, n, &mut bl, &mut bw);
+    grounded(
+        s,
+        marks,
+        nodes,
+        &mut parent,
+        &mut order,
+        &mut place,
+        &mut bl,
+        &mut bw,
+    );
     let way = way_between(&parent, &order, &place, &bl, &bw, n, x, y);
     spines::heads_of(&parent, &order, &place, n, &mut head);
     let hops = spines::hops(&parent, &place, &head, n, x, y);

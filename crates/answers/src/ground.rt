@@ -1,8 +1,29 @@
-// What a sweep over an accepted net stands on, beside its walk: each node's own branch, under the marks.
-ghost use Rattle.answers.specs.Work.{Readable, Branches};
+// What a sweep over an accepted net stands on: its walk, and each node's own branch, under the marks.
+ghost use Rattle.tree.specs.Net.{Net};
+ghost use Rattle.answers.specs.Work.{Readable, Branches, Grounded};
+
+// The walk of an accepted net, and its branches.
+pub(crate) fn grounded(
+    s: &[u8],
+    marks: &[u16],
+    nodes: u16,
+    parent: &mut [u16; 4096],
+    order: &mut [u16; 4096],
+    place: &mut [u16; 4096],
+    bl: &mut [u64; 4096],
+    bw: &mut [u64; 4096],
+)
+    requires { ⌜ Net (now s) nodes ⌝ }
+    ensures { λ _. ⌜ Grounded (now (s .entry)) (now (marks .entry)) nodes (now (parent .exit)) (now (order .exit)) (now (place .exit)) (now (bl .exit)) (now (bw .exit)) ⌝ }
+{
+    let mut half: [u16; 4096] = [0; 4096];
+    tree::walk(s, nodes, parent, &mut half, order, place);
+    let n = arrays::wide(nodes);
+    branches(s, marks, &half, n, bl, bw);
+}
 
 // For each node but 0 the length and the lifted weight of the branch to its parent, a marked one as the marks crate has it.
-pub(crate) fn branches(
+fn branches(
     s: &[u8],
     marks: &[u16],
     half: &[u16; 4096],

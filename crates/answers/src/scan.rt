@@ -6,7 +6,7 @@ ghost use Rattle.pages.specs.Calls.{Paged};
 ghost use Rattle.paths.specs.Ground.{Ground};
 ghost use Rattle.answers.specs.PathOf.{PathOf};
 ghost use Rattle.answers.specs.Work.{ValueIn};
-use crate::ground::branches;
+use crate::ground::grounded;
 use pages::Count;
 
 // The first nodes in turn, from the start's on.
@@ -68,14 +68,21 @@ pub(crate) fn page(
     ensures { λ r. ⌜ Paged (Qualifies (PathOf (now (s .entry)) (now (marks .entry)) nodes) (λ l. l ≤ bound) floor nodes) low high (now (rows .entry)) (r .given) (r .left) (now (rows .exit)) ⌝ }
 {
     let mut parent: [u16; 4096] = [4096; 4096];
-    let mut half: [u16; 4096] = [0; 4096];
     let mut order: [u16; 4096] = [0; 4096];
     let mut place: [u16; 4096] = [0; 4096];
     let mut bl: [u64; 4096] = [0; 4096];
     let mut bw: [u64; 4096] = [0; 4096];
-    tree::walk(s, nodes, &mut parent, &mut half, &mut order, &mut place);
+    grounded(
+        s,
+        marks,
+        nodes,
+        &mut parent,
+        &mut order,
+        &mut place,
+        &mut bl,
+        &mut bw,
+    );
     let n = arrays::wide(nodes);
-    branches(s, marks, &half, n, &mut bl, &mut bw);
     firsts(
         &parent,
         &order,

@@ -17,10 +17,10 @@ use Rattle.pages.proofs.Rows.{rows-length, row-nodes, last-row}
 module _ {P : Entry → Type 0} (small : (e : Entry) → P e → (e .low < 65536) × (e .high < 65536)) where
   -- where some are left, the last row given, and its two nodes read out of the bytes
   last-given : {s t given left : ℕ} {old now : List ℕ} → 16 ≤ length old → (c : Paged P s t old given left now) → 0 < left
-      → (front : List Entry) × (e : Entry) × (c .some ≡ front ++ e ∷ []) × (u16At now (16 * (given - 1)) ≡ e .low) × (u16At now (16 * (given - 1) + 2) ≡ e .high)
+      → (front : List Entry) × (e : Entry) × (c .some ≡ front ++ e ∷ []) × (u16At now (16 * (given - 1)) ≡ e .low) × (u16At now (16 * (given - 1) + 2) ≡ e .high) × P e
   last-given {given = given} {old = old} {now = now} h c z =
       let w = snoc (c .some) (omega (arith, page-full {room = length old / 16} z (c .page))) in
-      (w .0, w .1, w .2, first-is (w .0) (w .1) (w .2), second-is (w .0) (w .1) (w .2))
+      (w .0, w .1, w .2, first-is (w .0) (w .1) (w .2), second-is (w .0) (w .1) (w .2), last-in (w .0) (w .1) (w .2))
     where
       last-in : (front : List Entry) (e : Entry) → c .some ≡ front ++ e ∷ [] → P e
       last-in front e q =
@@ -44,6 +44,12 @@ module _ {P : Entry → Type 0} (small : (e : Entry) → P e → (e .low < 65536
   calls-run (again {old} h c z r) =
       let w = last-given h c z in
       goes {room = length old / 16} (w .0) (w .1) (omega arith) (c .page) z (w .2) (rw (w .3, w .4) at (calls-run r))
+
+  -- the next start is two numbers of 16 bits
+  pub calls-next : {s t given left : ℕ} {old now : List ℕ} → 16 ≤ length old → Paged P s t old given left now → 0 < left → (u16At now (16 * (given - 1)) < 65536) × (u16At now (16 * (given - 1) + 2) < 65536)
+  calls-next h c z =
+      let w = last-given h c z in
+      rw (w .3, w .4) (small (w .1) (w .5))
 
   -- each call begins with fewer to give than the one before
   pub calls-fewer : {s t given left given₂ left₂ : ℕ} {old now old₂ now₂ : List ℕ} → 16 ≤ length old → Paged P s t old given left now → 0 < left → 16 ≤ length old₂

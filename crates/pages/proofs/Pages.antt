@@ -1,5 +1,5 @@
--- Pages: one at the most; what follows a row of the list is what stands after it, so that a run of pages joins up to the whole; whatever the rooms, the pages come to an end.
-use Prim.Native.Nat.{ℕ, zero, suc, _+_, _≤_, _<_}
+-- Pages: one at the most; what follows a row of the list is what stands after it, so that a run of pages joins up to the whole; each page begins with fewer to give, and gives some where some follow.
+use Prim.Native.Nat.{ℕ, _+_, _≤_, _<_}
 use mathlib.Core.Path.{_≡_, refl, sym, ap, _∙_}
 use mathlib.Core.Logic.{_⊎_, inl, inr}
 use mathlib.Core.List.{List, [], _∷_, _++_}
@@ -7,7 +7,7 @@ use native.Mathlib.Omega.{arith}
 use native.Mathlib.Decide.{decLt}
 use lib.ListN.{length, take, drop, take-append-drop, length-drop, length-take}
 use lib.Seq.{take-all}
-use Rattle.pages.specs.Listing.{Entry, Before, In, at, Listing}
+use Rattle.pages.specs.Listing.{Entry, Before, In, at, past, Listing}
 use Rattle.pages.specs.Page.{Following, Page, Run, ends, goes}
 use Rattle.pages.proofs.Order.{after-trans, after-self, after-both, after-start}
 use Rattle.pages.proofs.Members.{in-one, in-left, in-right, in-split}
@@ -33,6 +33,10 @@ module _ {P : Entry → Type 0} {s t : ℕ} (front : List Entry) (e : Entry) (ba
       pick : (x : Entry) → Before e x → In x (front ++ e ∷ []) ⊎ In x back → In x back
       pick x b (inl h) = absurd (upto x b (in-split front (e ∷ []) h))
       pick x b (inr h) = h
+
+in-some : {e : Entry} {l : List Entry} → In e l → 0 < length l
+in-some (at q) = omega arith
+in-some (past i) = omega arith
 
 module _ {P : Entry → Type 0} where
   page-next : {s t room left : ℕ} {given : List Entry} (front : List Entry) (e : Entry) (p : Page P s t room given left) → given ≡ front ++ e ∷ []
@@ -62,6 +66,10 @@ module _ {P : Entry → Type 0} where
   pub page-full : {s t room left : ℕ} {given : List Entry} → 0 < left → Page P s t room given left → length given ≡ room
   page-full {room} {left} {given} z p = omega (arith, ap length (p .fit), length-take room (p .rows), p .rest)
 
+  -- where some follow the start, a page with room for one row gives some
+  pub page-some : {s t room left : ℕ} {given : List Entry} {e : Entry} → 1 ≤ room → Page P s t room given left → Following P s t e → 0 < length given
+  page-some {room = room} k p f = omega (arith, ap length (p .fit), length-take room (p .rows), in-some (p .all .complete _ f))
+
   next-left : {s t room room₂ left left₂ : ℕ} {given given₂ : List Entry} (front : List Entry) (e : Entry) → Page P s t room given left → 0 < left → given ≡ front ++ e ∷ []
       → Page P (e .low) (e .high) room₂ given₂ left₂ → length given₂ + left₂ ≡ left
   next-left {room} front e p z q p₂ = omega (arith, page-count p₂ (page-next front e p q), length-drop room (p .rows), ap length (p .fit), length-take room (p .rows), p .rest)
@@ -89,26 +97,3 @@ pub snoc : (l : List Entry) → 0 < length l → (front : List Entry) × (e : En
 snoc [] h = absurd (omega arith)
 snoc (x ∷ []) h = ([], x, refl)
 snoc (x ∷ (y ∷ l)) h = let t = snoc (y ∷ l) (omega arith) in (x ∷ t .0, t .1, ap (λ m. x ∷ m) (t .2))
-
--- the answer to a page asked for
-pub record Asked (P : Entry → Type 0) (s t room : ℕ) : Type 0 where
-  pub given : List Entry
-  pub left : ℕ
-  pub page : Page P s t room given left
-
--- Where every page asked for is given, pages of any rooms come to an end: each begins with fewer to give than the one before
-module _ {P : Entry → Type 0} (rooms : ℕ → ℕ) (some : (i : ℕ) → 1 ≤ rooms i) (ask : (s t room : ℕ) → 1 ≤ room → Asked P s t room) where
-  from : (k i s t : ℕ) (a : Asked P s t (rooms i)) → a .left ≤ k → (joined : List Entry) × Run P s t joined
-  from zero i s t a h = let z : a .left ≡ 0 = omega arith in (a .given, ends (some i) (rw z at (a .page)))
-  from (suc k) i s t a h = pick (decLt 0 (a .left)) (from k (i + 1))
-    where
-      pick : Dec (0 < a .left) → ((s t : ℕ) (a : Asked P s t (rooms (i + 1))) → a .left ≤ k → (joined : List Entry) × Run P s t joined) → (joined : List Entry) × Run P s t joined
-      pick (no n) ih = let z : a .left ≡ 0 = omega arith in (a .given, ends (some i) (rw z at (a .page)))
-      pick (yes z) ih =
-          let g = snoc (a .given) (omega (arith, page-full z (a .page), some i)) in
-          let b = ask (g .1 .low) (g .1 .high) (rooms (i + 1)) (some (i + 1)) in
-          let r = ih _ _ b (omega (arith, next-fewer (g .0) (g .1) (a .page) z (g .2) (some (i + 1)) (b .page))) in
-          (a .given ++ r .0, goes (g .0) (g .1) (some i) (a .page) z (g .2) (r .1))
-
-  pub run-exists : (s t : ℕ) → (joined : List Entry) × Run P s t joined
-  run-exists s t = let a = ask s t (rooms 0) (some 0) in from (a .left) 0 s t a (omega arith)

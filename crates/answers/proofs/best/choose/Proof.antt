@@ -25,10 +25,10 @@ returns-2 : tie.Need-returns-2
 returns-2 c = passed (omega (arith, c .before .before .before .before .wide .ensures)) (refused (none-within _ (c .before .before .before .before .before .before .before .args .marks .now) (c .before .before .before .before .before .before .before .pre) (c .before .before .search .ensures) (omega arith)))
 
 cast-t12 : tie.Need-cast-t12
-cast-t12 c = omega (arith, nodes-fit _ (c .before .before .before .before .before .before .before .before .args .marks .now) (c .before .before .before .before .before .before .before .before .pre) (c .before .before .before .search .ensures) (c .before .before .before .before .before .before .before .before .pre .few) (omega arith) .0)
+cast-t12 c = omega (arith, nodes-fit _ (c .before .before .before .before .before .before .before .before .args .marks .now) (c .before .before .before .before .before .before .before .before .pre) (c .before .before .before .search .ensures) (c .before .before .before .before .before .before .before .before .pre .few) (omega arith))
 
 cast-t13 : tie.Need-cast-t13
-cast-t13 c = omega (arith, nodes-fit _ (c .before .before .before .before .before .before .before .before .before .args .marks .now) (c .before .before .before .before .before .before .before .before .before .pre) (c .before .before .before .before .search .ensures) (c .before .before .before .before .before .before .before .before .before .pre .few) (omega arith) .1)
+cast-t13 c = omega (arith, nodes-fit _ (c .before .before .before .before .before .before .before .before .before .args .marks .now) (c .before .before .before .before .before .before .before .before .before .pre) (c .before .before .before .before .search .ensures) (c .before .before .before .before .before .before .before .before .before .pre .few) (omega arith))
 
 sub-t14 : tie.Need-sub-t14
 sub-t14 c = omega (arith, length-fits _ (c .before .before .before .before .before .before .before .before .before .before .args .marks .now) (c .before .before .before .before .before .before .before .before .before .before .pre) (c .before .before .before .before .before .search .ensures) (omega arith) .0)

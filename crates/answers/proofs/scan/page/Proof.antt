@@ -2,19 +2,16 @@
 use borrow.Author.Needs.{needs}
 use mir.Syntax.{w64}
 use mir.ValLaws.{toZ-ofZ}
-use Rattle.answers.proofs.Branching.{readable, ground}
+use Rattle.answers.proofs.Branching.{ground}
 use Rattle.answers.proofs.Scanning.{scanned}
 use Rattle.answers.proofs.scan.page.Statement.{statement}
 use Rattle.answers.proofs.scan.page.Tie as tie
 
-walk-requires : tie.Need-walk-requires
-walk-requires c κs = search needs
+grounded-requires : tie.Need-grounded-requires
+grounded-requires c κs = search needs
 
 wide-requires : tie.Need-wide-requires
 wide-requires c κs = search needs
-
-branches-requires : tie.Need-branches-requires
-branches-requires c κs = rw (c .before .before .before .wide .ensures .0) (readable (c .before .before .before .before .before .before .before .before .before .before .before .before .pre) (c .before .before .before .before .walk .ensures))
 
 long-requires : tie.Need-long-requires
 long-requires c κs = search needs
@@ -26,23 +23,22 @@ wide-requires-3 : tie.Need-wide-requires-3
 wide-requires-3 c κs = search needs
 
 firsts-requires : tie.Need-firsts-requires
-firsts-requires c κs = rw (c .before .before .before .before .before .before .before .before .before .before .before .before .before .wide .ensures .0) (ground (c .before .before .before .before .before .before .before .before .before .before .before .before .before .before .before .before .before .before .before .before .before .before .pre) (c .before .before .before .before .before .before .before .before .before .before .before .before .before .before .walk .ensures) (rw (c .before .before .before .before .before .before .before .before .before .before .before .before .before .wide .ensures .0) at (c .before .before .before .before .before .before .before .before .before .branches .ensures)))
+firsts-requires c κs = rw (c .before .before .before .before .before .before .before .before .before .wide .ensures .0) (ground (c .before .before .before .before .before .before .before .before .before .before .grounded .ensures))
 
 same-length : tie.Need-same-length
 same-length c = search needs
 
 returns : tie.Need-returns
 returns c =
-    let e = toZ-ofZ w64 (c .before .before .before .before .before .before .before .before .before .before .before .before .before .before .before .before .before .before .before .before .before .before .before .before .before .args .floor) (c .before .before .before .before .before .before .before .before .before .before .before .before .before .before .before .before .before .before .before .before .before .before .before .before .before .fits .floor) in
-    scanned (c .before .before .before .before .before .before .before .before .before .before .before .before .before .before .before .before .wide .ensures .0) (c .before .before .before .before .before .before .before .before .before .before .before .before .before .before .before .before .before .before .before .before .before .before .before .before .before .pre) (c .before .before .before .before .before .before .before .before .before .before .before .before .before .before .before .before .before .walk .ensures) (c .before .before .before .before .before .before .before .before .before .before .before .before .branches .ensures) (rw (e, c .before .before .before .before .before .before .long .ensures .0, c .before .before .before .before .before .wide2 .ensures .0, c .before .before .before .before .wide3 .ensures .0) at (c .before .before .firsts .ensures))
+    let e = toZ-ofZ w64 (c .before .before .before .before .before .before .before .before .before .before .before .before .before .before .before .before .before .before .before .before .before .before .args .floor) (c .before .before .before .before .before .before .before .before .before .before .before .before .before .before .before .before .before .before .before .before .before .before .fits .floor) in
+    scanned (c .before .before .before .before .before .before .before .before .before .before .before .before .wide .ensures .0) (c .before .before .before .before .before .before .before .before .before .before .before .before .before .grounded .ensures) (rw (e, c .before .before .before .before .before .before .long .ensures .0, c .before .before .before .before .before .wide2 .ensures .0, c .before .before .before .before .wide3 .ensures .0) at (c .before .before .firsts .ensures))
 
 pub page-spec : {M : Type 1} → statement M
 page-spec =
     tie.close
     (tie.spec
-    walk-requires
+    grounded-requires
     wide-requires
-    branches-requires
     long-requires
     wide-requires-2
     wide-requires-3
