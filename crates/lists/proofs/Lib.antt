@@ -1,5 +1,6 @@
--- Laws of this crate, by topic; Merged, Copied and Order serve the crates above.
+-- Laws of this crate, by topic; Merging and Order serve the crates above.
 pub mod Merging
 pub mod Copying
 pub mod Order
 pub mod Joining
+pub mod Only
