@@ -1,9 +1,11 @@
 // The report's lines, in a lent buffer. A row of a page is 16 bytes: node, node, length, weight.
 ghost use Prim.Native.Nat.{_+_, _*_, _-_, _≤_, _<_};
 ghost use lib.ListN.{length};
+use crate::text::LINE_END;
+use crate::text::SPACE;
 use crate::text::put_bits;
-use crate::text::put_lifted;
-use crate::text::put_next;
+use crate::text::put_field;
+use crate::text::put_number;
 use crate::text::put_word;
 
 fn wide(x: u8) -> u64
@@ -33,51 +35,33 @@ fn eight(rows: &[u8], i: usize) -> u64
     four(rows, i) + 4294967296 * four(rows, i + 4)
 }
 
-// `refused 11 row 1`
-pub(crate) fn refusal(out: &mut [u8], number: u64, row: u64) -> usize
-    requires { ⌜ 64 ≤ length (now out) ⌝ }
-    ensures { λ r. ⌜ r ≤ 64 ⌝ }
-{
-    let a = put_word(out, 0, b"refused");
-    let b = put_next(out, a, number);
-    let c = put_word(out, b, b" row");
-    let d = put_next(out, c, row);
-    put_word(out, d, b"\n")
+// The 64 bits of a signed number that was lifted by 2^33.
+pub(crate) fn bits_of(lifted: u64) -> u64 {
+    if lifted < 8589934592 {
+        return 18446744073709551615 - (8589934591 - lifted);
+    }
+    lifted - 8589934592
 }
 
-// `net 5 bound 8`
-pub(crate) fn net(out: &mut [u8], nodes: u64, bound: u64) -> usize
-    requires { ⌜ 64 ≤ length (now out) ⌝ }
-    ensures { λ r. ⌜ r ≤ 64 ⌝ }
+// `refused 11 row 1`, `net 5 bound 8`: two words, each with its number
+pub(crate) fn two_numbers(out: &mut [u8], word: &[u8], x: u64, other: &[u8], y: u64) -> usize
+    requires { ⌜ length (now word) + length (now other) + 42 ≤ length (now out) ⌝ }
+    ensures { λ r. ⌜ r ≤ length (now (word .entry)) + length (now (other .entry)) + 42 ⌝ }
 {
-    let a = put_word(out, 0, b"net");
-    let b = put_next(out, a, nodes);
-    let c = put_word(out, b, b" bound");
-    let d = put_next(out, c, bound);
-    put_word(out, d, b"\n")
+    let a = put_field(out, 0, word, x, SPACE);
+    put_field(out, a, other, y, LINE_END)
 }
 
-// ` length 6 weight 7`, and the line's end; the weight lifted
-fn run(out: &mut [u8], at: usize, len: u64, lifted: u64) -> usize
-    requires { ⌜ at + 64 ≤ length (now out) ⌝ }
-    ensures { λ r. ⌜ r ≤ at + 64 ⌝ }
+// `best 1 3 length 6 weight 7`, the weight by its 64 bits
+pub(crate) fn best(out: &mut [u8], at: usize, low: u64, high: u64, len: u64, bits: u64) -> usize
+    requires { ⌜ at + 128 ≤ length (now out) ⌝ }
+    ensures { λ r. ⌜ r ≤ at + 128 ⌝ }
 {
-    let a = put_word(out, at, b" length");
-    let b = put_next(out, a, len);
-    let c = put_word(out, b, b" weight");
-    let d = put_lifted(out, c, lifted);
-    put_word(out, d, b"\n")
-}
-
-// `best 1 3 length 6 weight 7`
-pub(crate) fn best(out: &mut [u8], low: u64, high: u64, len: u64, lifted: u64) -> usize
-    requires { ⌜ 128 ≤ length (now out) ⌝ }
-    ensures { λ r. ⌜ r ≤ 128 ⌝ }
-{
-    let a = put_word(out, 0, b"best");
-    let b = put_next(out, a, low);
-    let c = put_next(out, b, high);
-    run(out, c, len, lifted)
+    let a = put_field(out, at, b"best ", low, SPACE);
+    let b = put_number(out, a, high, SPACE);
+    let c = put_field(out, b, b"length ", len, SPACE);
+    let d = put_word(out, c, b"weight ");
+    put_bits(out, d, bits, LINE_END)
 }
 
 // `pair 0 2 7 7`, of the row that begins at place i
@@ -85,12 +69,10 @@ fn pair(out: &mut [u8], at: usize, rows: &[u8], i: usize) -> usize
     requires { ⌜ (at + 96 ≤ length (now out)) × (i + 16 ≤ length (now rows)) ⌝ }
     ensures { λ r. ⌜ r ≤ at + 96 ⌝ }
 {
-    let a = put_word(out, at, b"pair");
-    let b = put_next(out, a, two(rows, i));
-    let c = put_next(out, b, two(rows, i + 2));
-    let d = put_next(out, c, four(rows, i + 4));
-    let e = put_bits(out, d, eight(rows, i + 8));
-    put_word(out, e, b"\n")
+    let a = put_field(out, at, b"pair ", two(rows, i), SPACE);
+    let b = put_number(out, a, two(rows, i + 2), SPACE);
+    let c = put_number(out, b, four(rows, i + 4), SPACE);
+    put_bits(out, c, eight(rows, i + 8), LINE_END)
 }
 
 // The lines of the rows from one on, up to another.
@@ -112,7 +94,5 @@ pub(crate) fn total(out: &mut [u8], count: u64) -> usize
     requires { ⌜ 64 ≤ length (now out) ⌝ }
     ensures { λ r. ⌜ r ≤ 64 ⌝ }
 {
-    let a = put_word(out, 0, b"total");
-    let b = put_next(out, a, count);
-    put_word(out, b, b"\n")
+    put_field(out, 0, b"total ", count, LINE_END)
 }

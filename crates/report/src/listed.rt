@@ -49,8 +49,8 @@ fn ask(table: &[u8], marks: &[u16], floor: i64, low: u16, high: u16, rows: &mut 
     }
 }
 
-// The pages after the first, each from the last row of the one before, until none is left. Each leaves fewer than the one before (`fewer-left`,
-// answers' proofs/Demand3): the two tests for it never end the loop, they show that it ends.
+// The pages after the first, each from the last row of the one before, until none is left. Each leaves fewer than the one before (`fewer-left`, answers'
+// proofs/Demand3); that is not proved of this loop, and so it has two tests by which it is seen to end.
 fn later_pages(
     table: &[u8],
     marks: &[u16],

@@ -17,9 +17,9 @@ fn table_space() -> [u8; 49153] {
     [0; 49153]
 }
 
-// A page of 65,536 rows.
-fn page_space() -> [u8; 1048576] {
-    [0; 1048576]
+// A page of 262,144 rows: half of the 8 MB of stack that Linux gives a program.
+fn page_space() -> [u8; 4194304] {
+    [0; 4194304]
 }
 
 // As many free branches as a net can have.
@@ -30,7 +30,7 @@ fn free_branches() -> [u16; 4095] {
 fn refuse(out: &mut [u8], why: Refusal)
     requires { ⌜ 65536 ≤ length (now out) ⌝ }
 {
-    let n = lines::refusal(out, why.number as u64, why.row as u64);
+    let n = lines::two_numbers(out, b"refused ", why.number as u64, b"row ", why.row as u64);
     send(out, n);
 }
 
@@ -38,15 +38,9 @@ fn refuse(out: &mut [u8], why: Refusal)
 fn top(out: &mut [u8], nodes: u16, bound: u32, low: u16, high: u16, len: u32, weight: i64)
     requires { ⌜ 65536 ≤ length (now out) ⌝ }
 {
-    let n = lines::net(out, nodes as u64, bound as u64);
-    send(out, n);
-    let m = lines::best(
-        out,
-        low as u64,
-        high as u64,
-        len as u64,
-        pages::raised(weight),
-    );
+    let n = lines::two_numbers(out, b"net ", nodes as u64, b"bound ", bound as u64);
+    let bits = lines::bits_of(pages::raised(weight));
+    let m = lines::best(out, n, low as u64, high as u64, len as u64, bits);
     send(out, m);
 }
 

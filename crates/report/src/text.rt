@@ -3,6 +3,10 @@ ghost use mathlib.Core.Path.{_≡_};
 ghost use Prim.Native.Nat.{_+_, _≤_};
 ghost use lib.ListN.{length};
 
+pub(crate) const SPACE: u8 = 32;
+
+pub(crate) const LINE_END: u8 = 10;
+
 // The powers of ten: a number below the k-th has k digits or fewer.
 const POWERS: [u64; 20] = [
     1,
@@ -57,10 +61,10 @@ pub(crate) fn put_word(out: &mut [u8], at: usize, word: &[u8]) -> usize
     at + word.len()
 }
 
-// A number in decimal digits, the last one first.
-pub(crate) fn put_number(out: &mut [u8], at: usize, x: u64) -> usize
-    requires { ⌜ at + 20 ≤ length (now out) ⌝ }
-    ensures { λ r. ⌜ r ≤ at + 20 ⌝ }
+// A number in decimal digits, the last one first, and one byte after them.
+pub(crate) fn put_number(out: &mut [u8], at: usize, x: u64, after: u8) -> usize
+    requires { ⌜ at + 21 ≤ length (now out) ⌝ }
+    ensures { λ r. ⌜ r ≤ at + 21 ⌝ }
 {
     let end = at + places(x);
     let mut i = end;
@@ -70,45 +74,27 @@ pub(crate) fn put_number(out: &mut [u8], at: usize, x: u64) -> usize
         out[i] = digit(rest);
         rest /= 10;
     }
-    end
+    out[end] = after;
+    end + 1
 }
 
-// A space and a number.
-pub(crate) fn put_next(out: &mut [u8], at: usize, x: u64) -> usize
-    requires { ⌜ at + 21 ≤ length (now out) ⌝ }
-    ensures { λ r. ⌜ r ≤ at + 21 ⌝ }
-{
-    let a = put_word(out, at, b" ");
-    put_number(out, a, x)
-}
-
-// A space and a number below 0, by its size.
-fn put_minus(out: &mut [u8], at: usize, x: u64) -> usize
-    requires { ⌜ at + 22 ≤ length (now out) ⌝ }
-    ensures { λ r. ⌜ r ≤ at + 22 ⌝ }
-{
-    let a = put_word(out, at, b" -");
-    put_number(out, a, x)
-}
-
-// A space and a signed number, by its 64 bits.
-pub(crate) fn put_bits(out: &mut [u8], at: usize, bits: u64) -> usize
+// A signed number, by its 64 bits, and one byte after it.
+pub(crate) fn put_bits(out: &mut [u8], at: usize, bits: u64, after: u8) -> usize
     requires { ⌜ at + 22 ≤ length (now out) ⌝ }
     ensures { λ r. ⌜ r ≤ at + 22 ⌝ }
 {
     if bits < 9223372036854775808 {
-        return put_next(out, at, bits);
+        return put_number(out, at, bits, after);
     }
-    put_minus(out, at, 18446744073709551615 - bits + 1)
+    let a = put_word(out, at, b"-");
+    put_number(out, a, 18446744073709551615 - bits + 1, after)
 }
 
-// A space and a signed number, lifted by 2^33.
-pub(crate) fn put_lifted(out: &mut [u8], at: usize, x: u64) -> usize
-    requires { ⌜ at + 22 ≤ length (now out) ⌝ }
-    ensures { λ r. ⌜ r ≤ at + 22 ⌝ }
+// A word and a number, and one byte after them.
+pub(crate) fn put_field(out: &mut [u8], at: usize, word: &[u8], x: u64, after: u8) -> usize
+    requires { ⌜ at + length (now word) + 21 ≤ length (now out) ⌝ }
+    ensures { λ r. ⌜ r ≤ at + length (now (word .entry)) + 21 ⌝ }
 {
-    if x < 8589934592 {
-        return put_minus(out, at, 8589934592 - x);
-    }
-    put_next(out, at, x - 8589934592)
+    let a = put_word(out, at, word);
+    put_number(out, a, x, after)
 }

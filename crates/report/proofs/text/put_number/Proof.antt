@@ -1,4 +1,4 @@
--- `put_number` writes its digits from the last to the first, 20 at most.
+-- `put_number` writes its digits from the last to the first, 20 at most, and one byte after them.
 use Prim.Native.Nat.{_+_, _≤_}
 use mathlib.Core.Path.{_≡_}
 use native.Mathlib.Omega.{arith}
@@ -8,10 +8,10 @@ use Rattle.report.proofs.text.put_number.Statement.{statement}
 use Rattle.report.proofs.text.put_number.Tie as tie
 
 abbrev Inv-loop : tie.InvT-loop
-Inv-loop out₀ at x end i₀ rest₀ out i rest = (i ≤ end) × (end ≤ at + 20) × (at + 20 ≤ length out₀) × (length out ≡ length out₀)
+Inv-loop out₀ at x after end i₀ rest₀ out i rest = (i ≤ end) × (end ≤ at + 20) × (at + 21 ≤ length out₀) × (length out ≡ length out₀)
 
 abbrev μ-loop : tie.MeasureT-loop
-μ-loop out₀ at x end i₀ rest₀ out i rest = i
+μ-loop out₀ at x after end i₀ rest₀ out i rest = i
 
 places-requires : tie.Need-places-requires Inv-loop μ-loop
 places-requires c κs = search needs
@@ -37,8 +37,14 @@ loop-less c = omega arith
 loop-again : tie.Need-loop-again Inv-loop μ-loop
 loop-again c = (omega arith, omega arith, omega arith, simp length-set (omega arith))
 
+slice-write-out-2 : tie.Need-slice-write-out-2 Inv-loop μ-loop
+slice-write-out-2 c = omega arith
+
+add-result : tie.Need-add-result Inv-loop μ-loop
+add-result c = omega arith
+
 same-length : tie.Need-same-length Inv-loop μ-loop
-same-length c = omega arith
+same-length c = simp length-set (omega arith)
 
 returns : tie.Need-returns Inv-loop μ-loop
 returns c = omega arith
@@ -57,5 +63,7 @@ put-number-spec =
     slice-write-out
     loop-less
     loop-again
+    slice-write-out-2
+    add-result
     same-length
     returns)
