@@ -1,4 +1,5 @@
-// Runs the table's edges in the gate: what opening and examining say of a small good table and of each way to damage it.
+// Runs the table's edges in the gate: what opening and examining say of a small good table and of each way to damage it, and what `row_part`, `next_row`
+// and `first_row` hand back.
 ghost use Prim.Native.Nat.{_<_};
 use libc::STDOUT_FILENO;
 use table::Opening;
@@ -116,10 +117,8 @@ fn largest(name: &[u8], low: u8) {
     show(name, &t[0..49152]);
 }
 
-// A row's part, by its nodes where it is one, and the next row.
-fn part(name: &[u8], t: &[u8], row: usize) {
-    let p = table::row_part(t, row);
-    io::write_all(STDOUT_FILENO, name);
+// A row's part, by its nodes where it is one.
+fn say_part(p: &[u8]) {
     if p.len() == 12 {
         io::write_all(STDOUT_FILENO, b": part from node ");
         io::print_decimal(STDOUT_FILENO, wide(p[0]));
@@ -128,9 +127,40 @@ fn part(name: &[u8], t: &[u8], row: usize) {
     } else {
         io::write_all(STDOUT_FILENO, b": no part");
     }
+}
+
+// The part of a row, and the next row.
+fn part(name: &[u8], t: &[u8], row: usize) {
+    let p = table::row_part(t, row);
+    io::write_all(STDOUT_FILENO, name);
+    say_part(p);
     io::write_all(STDOUT_FILENO, b", next row ");
     io::print_decimal(STDOUT_FILENO, table::next_row(t, row) as u64);
     io::write_all(STDOUT_FILENO, b"\n");
+}
+
+// The first row's part by a reader of its own, which holds nothing of a table whose header is refused.
+fn first(name: &[u8], t: &[u8]) {
+    let p = table::first_row(t);
+    io::write_all(STDOUT_FILENO, name);
+    say_part(p);
+    io::write_all(STDOUT_FILENO, b"\n");
+}
+
+fn first_good(name: &[u8], t: &[u8; 37]) {
+    let s = &t[..];
+    if 36 <= s.len() {
+        first(name, &s[0..36]);
+    }
+}
+
+// Of the good table with one byte changed.
+fn first_with(name: &[u8], at: usize, v: u8)
+    requires { ⌜ at < 36 ⌝ }
+{
+    let mut t = good();
+    t[at] = v;
+    first_good(name, &t);
 }
 
 fn sizes() {
@@ -208,6 +238,17 @@ fn no_parts() {
     part(b"the last row number", &t[0..36], 18446744073709551615);
 }
 
+// Opening tests 1 to 6 alone: a bad row is handed back like any other.
+fn firsts() {
+    let t = good();
+    first(b"first row", &t[0..36]);
+    first(b"first row, one byte short", &t[0..35]);
+    first(b"first row of nothing", &t[0..0]);
+    first_with(b"first row, first letter", 0, 114);
+    first_with(b"first row, reserved byte", 7, 1);
+    first_with(b"first row 1-1", 12, 1);
+}
+
 fn main() {
     sizes();
     letters();
@@ -218,4 +259,5 @@ fn main() {
     two_bad_rows();
     parts();
     no_parts();
+    firsts();
 }
