@@ -1,4 +1,5 @@
-// The worked net of document 01, run by the gate: every operation on N5, and what it answers.
+// The worked net of document 01, run by the gate: every operation on N5, and what it answers; and a net whose root has two children (slip 2). A name handed
+// on at each call would cost the check more than the numbers that a line begins with.
 ghost use Prim.Native.Nat.{_<_};
 use answers::Listed;
 use answers::PairAnswer;
@@ -74,6 +75,50 @@ fn net(bound: u8) -> [u8; 60] {
     ]
 }
 
+// Slip 2: node 0 has two branches and is no leaf. 0-1 of length 3 and weight 5; 0-2 of 4 and 6; bound 7. Worked out by hand: the leaves are 1 and 2, one
+// below each child, so node 0's spine goes on to the lower, 1, and 2 hangs from it and is its own head; the heaviest run, 1-2, goes through the root, with
+// length 7, weight 11 and two spines.
+fn fork() -> [u8; 36] {
+    [
+        82,
+        84,
+        78,
+        1,
+        0,
+        3,
+        0,
+        0,
+        7,
+        0,
+        0,
+        0,
+        0,
+        0,
+        1,
+        0,
+        3,
+        0,
+        0,
+        0,
+        5,
+        0,
+        0,
+        0,
+        0,
+        0,
+        2,
+        0,
+        4,
+        0,
+        0,
+        0,
+        6,
+        0,
+        0,
+        0,
+    ]
+}
+
 fn say(text: &[u8]) {
     io::write_all(STDOUT_FILENO, text);
 }
@@ -83,17 +128,14 @@ fn number(n: u64) {
     io::print_decimal(STDOUT_FILENO, n);
 }
 
-// The net's own weights are few: any other is told by its sign.
+// A weight, brought into natural numbers by the lift of the promises.
 fn weight(w: i64) {
-    match w {
-        -3 => say(b" -3"),
-        0 => say(b" 0"),
-        5 => say(b" 5"),
-        6 => say(b" 6"),
-        7 => say(b" 7"),
-        9 => say(b" 9"),
-        12 => say(b" 12"),
-        _ => say(b" another weight"),
+    let x = pages::raised(w);
+    if x < 8589934592 {
+        say(b" -");
+        io::print_decimal(STDOUT_FILENO, 8589934592 - x);
+    } else {
+        number(x - 8589934592);
     }
 }
 
@@ -107,10 +149,26 @@ fn end() {
     say(b"\n");
 }
 
-fn heaviest(name: &[u8], bound: u8, marks: [u16; 4]) {
-    let t = net(bound);
-    say(name);
-    let r = answers::heaviest(&t, &marks);
+fn wide16(x: u16) -> u64 {
+    x as u64
+}
+
+fn word(words: &[u16], i: usize) {
+    if i < words.len() {
+        number(wide16(words[i]));
+    }
+}
+
+// The first five of a lent list.
+fn words(list: &[u16]) {
+    word(list, 0);
+    word(list, 1);
+    word(list, 2);
+    word(list, 3);
+    word(list, 4);
+}
+
+fn run_said(r: Run) {
     match r {
         Run::Refused(why) => refused(why),
         Run::Between {
@@ -128,11 +186,18 @@ fn heaviest(name: &[u8], bound: u8, marks: [u16; 4]) {
     end();
 }
 
-fn pair(name: &[u8], a: u16, b: u16) {
-    let t = net(9);
-    let free = [0u16; 4];
-    say(name);
-    let r = answers::pair(&t, &free, a, b);
+// `heaviest B 9 marks 0 0 0 0: 2 3 9 9`
+fn heaviest(bound: u8, marks: [u16; 4]) {
+    let t = net(bound);
+    say(b"heaviest B");
+    number(bound as u64);
+    say(b" marks");
+    words(&marks);
+    say(b":");
+    run_said(answers::heaviest(&t, &marks));
+}
+
+fn pair_said(r: PairAnswer) {
     match r {
         PairAnswer::Refused(why) => refused(why),
         PairAnswer::Found {
@@ -146,6 +211,15 @@ fn pair(name: &[u8], a: u16, b: u16) {
         }
     }
     end();
+}
+
+// `pair 2 4: 11 6 2`
+fn pair(t: &[u8], free: &[u16], a: u16, b: u16) {
+    say(b"pair");
+    number(a as u64);
+    number(b as u64);
+    say(b":");
+    pair_said(answers::pair(t, free, a, b));
 }
 
 fn wide(x: u8) -> u64 {
@@ -172,11 +246,7 @@ fn nodes(rows: &[u8], written: usize) {
     row(rows, written, 3);
 }
 
-fn listing(name: &[u8], floor: i64, low: u16, high: u16, rows: &mut [u8]) {
-    let t = net(9);
-    let free = [0u16; 4];
-    say(name);
-    let r = answers::listing(&t, &free, floor, low, high, rows);
+fn listed(r: Listed, rows: &[u8]) {
     match r {
         Listed::Refused(why) => refused(why),
         Listed::Rows { written, left } => {
@@ -188,167 +258,195 @@ fn listing(name: &[u8], floor: i64, low: u16, high: u16, rows: &mut [u8]) {
     end();
 }
 
-fn wide16(x: u16) -> u64 {
-    x as u64
+// `listing after 0 0: 0 2 1 3 2 3 left 0`
+fn listing(t: &[u8], floor: i64, low: u16, high: u16, rows: &mut [u8]) {
+    let free = [0u16; 4];
+    say(b"listing after");
+    number(low as u64);
+    number(high as u64);
+    say(b":");
+    let r = answers::listing(t, &free, floor, low, high, rows);
+    listed(r, rows);
 }
 
-fn mark(marks: &[u16], i: usize) {
-    if i < marks.len() {
-        number(wide16(marks[i]));
+// `room 16, listing after 0 0: 0 2 left 2`
+fn room(t: &[u8], rows: &mut [u8], n: usize) {
+    if n <= rows.len() {
+        say(b"room");
+        number(n as u64);
+        say(b", ");
+        listing(t, 7, 0, 0, &mut rows[0..n]);
     }
 }
 
-// The first five of a lent list.
-fn marks_now(marks: &[u16]) {
-    say(b" now");
-    mark(marks, 0);
-    mark(marks, 1);
-    mark(marks, 2);
-    mark(marks, 3);
-    mark(marks, 4);
-    end();
-}
-
-fn told(name: &[u8], c: Change, marks: &[u16]) {
-    say(name);
+fn told(c: Change, marks: &[u16]) {
+    say(b":");
     match c {
         Change::Refused(why) => refused(why),
         Change::Changed(k) => number(k as u64),
     }
-    marks_now(marks);
+    say(b" now");
+    words(marks);
+    end();
 }
 
-fn claim(name: &[u8], run: u16, a: u16, b: u16, marks: &mut [u16]) {
-    let t = net(9);
-    let c = marks::claim(&t, marks, run, a, b);
-    told(name, c, marks);
+fn who(run: u16) {
+    say(b"run");
+    number(run as u64);
 }
 
-fn commit(name: &[u8], run: u16, marks: &mut [u16]) {
-    let t = net(9);
-    let c = marks::commit(&t, marks, run);
-    told(name, c, marks);
+// `run 7 claims 2 3: 2 now 0 7 7 0`
+fn claim(t: &[u8], run: u16, a: u16, b: u16, marks: &mut [u16]) {
+    who(run);
+    say(b" claims");
+    number(a as u64);
+    number(b as u64);
+    let c = marks::claim(t, marks, run, a, b);
+    told(c, marks);
 }
 
-fn abort(name: &[u8], run: u16, marks: &mut [u16]) {
-    let t = net(9);
-    let c = marks::abort(&t, marks, run);
-    told(name, c, marks);
+fn commit(t: &[u8], run: u16, marks: &mut [u16]) {
+    who(run);
+    say(b" commits");
+    let c = marks::commit(t, marks, run);
+    told(c, marks);
 }
 
-fn heads(name: &[u8], list: &mut [u16]) {
-    let t = net(9);
-    say(name);
-    let h = spines::heads(&t, list);
+fn abort(t: &[u8], run: u16, marks: &mut [u16]) {
+    who(run);
+    say(b" aborts");
+    let c = marks::abort(t, marks, run);
+    told(c, marks);
+}
+
+fn heads_said(h: HeadsAnswer) {
     match h {
         HeadsAnswer::Refused(why) => refused(why),
         HeadsAnswer::Written => say(b" written"),
     }
-    marks_now(list);
+}
+
+// `heads of 5: written now 0 0 0 3 3`
+fn heads(t: &[u8], list: &mut [u16]) {
+    say(b"heads of");
+    number(list.len() as u64);
+    say(b":");
+    heads_said(spines::heads(t, list));
+    say(b" now");
+    words(list);
+    end();
 }
 
 fn runs() {
-    heaviest(b"heaviest B 9", 9, [0, 0, 0, 0]);
-    heaviest(b"heaviest B 8", 8, [0, 0, 0, 0]);
-    heaviest(b"heaviest B 10", 10, [0, 0, 0, 0]);
-    heaviest(b"heaviest B 2", 2, [0, 0, 0, 0]);
-    heaviest(b"heaviest B 1", 1, [0, 0, 0, 0]);
+    heaviest(9, [0, 0, 0, 0]);
+    heaviest(8, [0, 0, 0, 0]);
+    heaviest(10, [0, 0, 0, 0]);
+    heaviest(2, [0, 0, 0, 0]);
+    heaviest(1, [0, 0, 0, 0]);
+    heaviest(9, [0, 7, 7, 0]);
+    heaviest(2, [0, 0, 0, 5]);
 }
 
-fn marked_runs() {
-    heaviest(b"heaviest B 9 marks 0 7 7 0", 9, [0, 7, 7, 0]);
-    heaviest(b"heaviest B 2 marks 0 0 0 5", 2, [0, 0, 0, 5]);
+fn pairs(t: &[u8], free: &[u16]) {
+    pair(t, free, 2, 4);
+    pair(t, free, 4, 2);
+    pair(t, free, 1, 1);
+    pair(t, free, 0, 5);
+    pair(t, free, 65535, 0);
 }
 
-fn pairs() {
-    pair(b"pair 2 4", 2, 4);
-    pair(b"pair 4 2", 4, 2);
-    pair(b"pair 1 1", 1, 1);
-    pair(b"pair 0 5", 0, 5);
-    pair(b"pair 65535 0", 65535, 0);
+fn floors(t: &[u8], rows: &mut [u8]) {
+    say(b"floor 7, ");
+    listing(t, 7, 0, 0, rows);
+    say(b"floor 10, ");
+    listing(t, 10, 0, 0, rows);
+    say(b"lowest floor, ");
+    listing(t, -9223372036854775808, 0, 0, rows);
+    say(b"highest floor, ");
+    listing(t, 9223372036854775807, 0, 0, rows);
 }
 
-fn floors() {
+// Floor 7, from other starting pairs, and into less room.
+fn starts(t: &[u8], rows: &mut [u8]) {
+    listing(t, 7, 0, 2, rows);
+    listing(t, 7, 2, 0, rows);
+    listing(t, 7, 4, 4, rows);
+    listing(t, 7, 65535, 65535, rows);
+}
+
+fn rooms(t: &[u8], rows: &mut [u8]) {
+    room(t, rows, 15);
+    room(t, rows, 16);
+    room(t, rows, 31);
+    room(t, rows, 32);
+}
+
+fn held(t: &[u8], m: &mut [u16]) {
+    claim(t, 7, 2, 3, m);
+    claim(t, 7, 2, 3, m);
+    claim(t, 8, 1, 3, m);
+    claim(t, 8, 0, 3, m);
+    commit(t, 8, m);
+    abort(t, 7, m);
+}
+
+fn spent(t: &[u8], m: &mut [u16]) {
+    claim(t, 7, 0, 2, m);
+    commit(t, 7, m);
+    claim(t, 7, 1, 3, m);
+    abort(t, 7, m);
+}
+
+fn wrong(t: &[u8], m: &mut [u16]) {
+    claim(t, 0, 2, 3, m);
+    claim(t, 65535, 2, 3, m);
+    abort(t, 0, m);
+}
+
+fn listings(t: &[u8]) {
     let mut rows = [0u8; 256];
-    listing(b"listing floor 7", 7, 0, 0, &mut rows);
-    listing(b"listing floor 10", 10, 0, 0, &mut rows);
-    listing(
-        b"listing lowest floor",
-        -9223372036854775808,
-        0,
-        0,
-        &mut rows,
-    );
-    listing(
-        b"listing highest floor",
-        9223372036854775807,
-        0,
-        0,
-        &mut rows,
-    );
+    floors(t, &mut rows);
+    starts(t, &mut rows);
+    rooms(t, &mut rows);
 }
 
-fn starts() {
-    let mut rows = [0u8; 256];
-    listing(b"listing after 0 2", 7, 0, 2, &mut rows);
-    listing(b"listing after 2 0", 7, 2, 0, &mut rows);
-    listing(b"listing after 4 4", 7, 4, 4, &mut rows);
-    listing(b"listing after 65535 65535", 7, 65535, 65535, &mut rows);
-}
-
-fn rooms() {
-    let mut a = [0u8; 15];
-    listing(b"listing room 15", 7, 0, 0, &mut a);
-    let mut b = [0u8; 16];
-    listing(b"listing room 16", 7, 0, 0, &mut b);
-    let mut c = [0u8; 31];
-    listing(b"listing room 31", 7, 0, 0, &mut c);
-    let mut d = [0u8; 32];
-    listing(b"listing room 32", 7, 0, 0, &mut d);
-}
-
-fn held() {
+fn changes(t: &[u8]) {
     let mut m = [0u16; 4];
-    claim(b"run 7 claims 2 3", 7, 2, 3, &mut m);
-    claim(b"run 8 claims 1 3", 8, 1, 3, &mut m);
-    claim(b"run 8 claims 0 3", 8, 0, 3, &mut m);
-    commit(b"run 8 commits", 8, &mut m);
-    abort(b"run 7 aborts", 7, &mut m);
-}
-
-fn spent() {
-    let mut m = [0u16; 4];
-    claim(b"run 7 claims 0 2", 7, 0, 2, &mut m);
-    commit(b"run 7 commits", 7, &mut m);
-    claim(b"run 7 claims 1 3", 7, 1, 3, &mut m);
-    abort(b"run 7 aborts", 7, &mut m);
-}
-
-fn wrong() {
-    let mut m = [0u16; 4];
-    claim(b"run 0 claims", 0, 2, 3, &mut m);
-    claim(b"run 65535 claims", 65535, 2, 3, &mut m);
-    abort(b"run 0 aborts", 0, &mut m);
+    held(t, &mut m);
+    spent(t, &mut m);
+    wrong(t, &mut m);
     let mut few = [0u16; 3];
-    claim(b"run 7 claims with 3 marks", 7, 2, 3, &mut few);
+    claim(t, 7, 2, 3, &mut few);
 }
 
-fn tops() {
+fn tops(t: &[u8]) {
     let mut five = [9u16; 5];
-    heads(b"heads", &mut five);
+    heads(t, &mut five);
     let mut four = [9u16; 4];
-    heads(b"heads of 4", &mut four);
+    heads(t, &mut four);
+}
+
+fn n5(t: &[u8]) {
+    let free = [0u16; 4];
+    pairs(t, &free);
+    listings(t);
+    changes(t);
+    tops(t);
+}
+
+fn forked(t: &[u8]) {
+    let free = [0u16; 2];
+    let mut three = [9u16; 3];
+    say(b"root with two children:");
+    run_said(answers::heaviest(t, &free));
+    pair(t, &free, 1, 2);
+    heads(t, &mut three);
 }
 
 fn main() {
     runs();
-    marked_runs();
-    pairs();
-    floors();
-    starts();
-    rooms();
-    held();
-    spent();
-    wrong();
-    tops();
+    let t = net(9);
+    n5(&t);
+    let f = fork();
+    forked(&f);
 }
