@@ -14,15 +14,14 @@ use Rattle.pages.specs.Listing.{Entry, entry, Before, first, second}
 use Rattle.lists.specs.Pairs.{best4, Le}
 use Rattle.lists.specs.declared.across.Best.{Best}
 use Rattle.runs.specs.Lift.{lift}
-use Rattle.places.specs.Heaviest.{Carried}
-use Rattle.places.specs.Heaviest as carried
+use Rattle.places.specs.BestPair.{Carried, BestPair}
 use Rattle.answers.specs.PathOf.{PathOf}
 use Rattle.answers.specs.Heaviest.{found, Runs, AtLeast, Heaviest, Gives}
 
 equally : {a b : ℕ} {y z : ℤ} → y ≡ z → Diff a b z → Diff a b y
 equally e h = rw e h
 
-module _ (s marks : List ℕ) {n bound : ℕ} (net : Net s n) {b : Best} (h : carried.Heaviest (PathOf s marks n) n bound b) where
+module _ (s marks : List ℕ) {n bound : ℕ} (net : Net s n) {b : Best} (h : BestPair (PathOf s marks n) n bound b) where
   -- a pair within the bound, as the lists carry it, is beaten
   record Beaten (f : Entry) : Type 0 where
     one : Best

@@ -1,6 +1,7 @@
--- The listing's promise allows one outcome, under any length test; and an outcome without a number is a page of an accepted net.
+-- The listing's promise allows one outcome, under any length test, and an outcome is that of one answer; and an outcome without a number is a page of an accepted net.
 use Prim.Native.Nat.{ℕ}
 use mathlib.Core.Path.{_≡_, sym, ap, _∙_}
+use mathlib.Core.Bool.{cond}
 use mathlib.Core.List.{List}
 use native.Mathlib.Omega.{arith}
 use lib.IntN.{ℤ}
@@ -14,7 +15,9 @@ use Rattle.pages.specs.Passes.{Qualifies}
 use Rattle.pages.specs.Calls.{Paged}
 use Rattle.pages.proofs.Only.{paged-only}
 use Rattle.answers.specs.PathOf.{PathOf}
-use Rattle.answers.specs.Listing.{Outcome, refusal, Lists, ListingWithin, ListingOf}
+use Rattle.answers.specs.Listing.{Outcome, refusal, outcome, Lists, ListingWithin, ListingOf}
+use Rattle.answers.specs.declared.Listed.{Listed}
+use Rattle.answers.specs.declared.Listed.the-variants.{Rows, Refused}
 
 lists-only : (P : Entry → Type 0) (low high : ℕ) (old : List ℕ) → Only (Lists P low high old)
 lists-only P low high old x y a b =
@@ -29,6 +32,13 @@ listing-within-only Within s marks floor low high old = begins-only (refusal old
 
 pub listing-only : (s marks : List ℕ) (floor : ℤ) (low high : ℕ) (old : List ℕ) → Only (ListingOf s marks floor low high old)
 listing-only s = listing-within-only _ s
+
+-- so the promise determines the answer itself: an outcome is that of one answer
+pub listed-one : (x y : Listed) (l m : List ℕ) → outcome x l ≡ outcome y m → x ≡ y
+listed-one (Rows a b) (Rows c d) l m e = λ i. Rows (e i .written) (e i .left)
+listed-one (Rows a b) (Refused w) l m e = let f : _≡_ {A = ℕ} 0 1 = ap (λ (o : Outcome). cond (o .refused) 1 0) e in absurd (omega (arith, f))
+listed-one (Refused w) (Rows a b) l m e = let f : _≡_ {A = ℕ} 1 0 = ap (λ (o : Outcome). cond (o .refused) 1 0) e in absurd (omega (arith, f))
+listed-one (Refused w) (Refused v) l m e = λ i. Refused (record { number = e i .number; row = e i .row })
 
 -- what a call that is not refused gives
 module _ (Within : ℕ → Type 0) (s marks : List ℕ) (floor : ℤ) (low high : ℕ) (old : List ℕ) (x : Outcome) (z : x .number ≡ 0) where

@@ -6,13 +6,13 @@ use native.Mathlib.Omega.{arith}
 use lib.IntN.{ℤ}
 use lib.ListN.{length}
 use Rattle.arrays.specs.Filled.{at}
-use Rattle.tree.proofs.Values.{length-only, weight-only}
 use Rattle.pages.specs.Passes.{Qualifies}
 use Rattle.pages.specs.Calls.{Paged}
 use Rattle.pages.specs.Work.{Raised, Starts, Ready, Seconds}
 use Rattle.pages.proofs.Firsts.{Sofar, Single, sofar-none, sofar-more, sofar-paged}
 use Rattle.paths.specs.Ground.{Ground}
 use Rattle.paths.specs.Paths.{Paths}
+use Rattle.paths.proofs.Single.{one-value}
 use Rattle.answers.specs.PathOf.{PathOf}
 use Rattle.answers.specs.Work.{ValueIn, Grounded}
 use Rattle.answers.proofs.Branching.{ground}
@@ -20,8 +20,8 @@ use Rattle.answers.proofs.Branching.{ground}
 -- one path, one value
 single : {n : ℕ} {parent order place bl bw : List ℕ} (g : Ground n parent order place bl bw) → Single (ValueIn g)
 single g = record {
-  one-length = λ a b l w l₁ w₁ p q. length-only (g .u) (g .v) (g .rooted .forest) p q;
-  one-weight = λ a b l w l₁ w₁ p q. weight-only (g .u) (g .v) (g .rooted .forest) p q;
+  one-length = λ a b l w l₁ w₁ p q. one-value g p q .0;
+  one-weight = λ a b l w l₁ w₁ p q. one-value g p q .1;
 }
 
 -- the first nodes below u are done: the page so far, in any net that fits the arrays; and that what the code counts fits

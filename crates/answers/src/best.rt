@@ -1,7 +1,7 @@
 // The operation heaviest: of the pairs within the bound the one of greatest weight; among equals the shorter, then the earlier pair.
 ghost use Prim.Native.Nat.{_≤_};
 ghost use Rattle.tree.specs.Net.{Net};
-ghost use Rattle.places.specs.Heaviest.{Heaviest};
+ghost use Rattle.places.specs.BestPair.{BestPair};
 ghost use Rattle.answers.specs.Heaviest.{outcome, Goes, HeaviestOf};
 ghost use Rattle.answers.specs.PathOf.{PathOf};
 use crate::ground::grounded;
@@ -23,7 +23,7 @@ pub enum Run {
 // The best pair of an accepted net, its length and weight lifted by 2^40; weight 0 is none.
 fn search(s: &[u8], marks: &[u16], nodes: u16, bound: u32) -> Best
     requires { ⌜ Net (now s) nodes ⌝ }
-    ensures { λ r. ⌜ Heaviest (PathOf (now (s .entry)) (now (marks .entry)) nodes) nodes bound r ⌝ }
+    ensures { λ r. ⌜ BestPair (PathOf (now (s .entry)) (now (marks .entry)) nodes) nodes bound r ⌝ }
 {
     let mut parent: [u16; 4096] = [4096; 4096];
     let mut order: [u16; 4096] = [0; 4096];

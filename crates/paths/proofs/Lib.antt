@@ -3,3 +3,4 @@ pub mod Branch
 pub mod Climbs
 pub mod Fresh
 pub mod Sweeps
+pub mod Single

@@ -28,7 +28,7 @@ use Rattle.paths.specs.Paths.{Paths}
 use Rattle.lists.specs.Pairs.{best4, Le}
 use Rattle.lists.specs.declared.across.Best.{Best}
 use Rattle.runs.specs.Lift.{lift}
-use Rattle.places.specs.Heaviest.{Carried, Heaviest}
+use Rattle.places.specs.BestPair.{Carried, BestPair}
 use Rattle.places.proofs.Chosen.{Lifted, Found, Chosen}
 use Rattle.places.proofs.Chosen as climbs
 
@@ -153,7 +153,7 @@ module _ {n : ℕ} {parent order place bl bw : List ℕ} (g : Ground n parent or
             high = v .high;
           }
 
-  pub heaviest : (bound : ℕ) (r : Best) → Chosen n parent d w (bound + lift) r → Heaviest From n bound r
+  pub heaviest : (bound : ℕ) (r : Best) → Chosen n parent d w (bound + lift) r → BestPair From n bound r
   heaviest bound r c = record { beats = beats; comes = comes (c .comes) }
     where
       beats : (x y : ℕ) → x < y → y < n → (b : Best) × Carried From n x y b × (b .length ≤ bound + lift → Le b r)

@@ -1,4 +1,4 @@
--- Heaviest: what the crate promises. Seats and Laid: working statements of private functions.
-pub mod Heaviest
+-- BestPair: what the crate promises. Seats and Laid: working statements of private functions.
+pub mod BestPair
 pub mod Seats
 pub mod Laid

@@ -7,7 +7,7 @@ use arrays::fill_long;
 use arrays::wide;
 
 // The name of each place: the node whose spot it is.
-pub fn lay_names(spot: &[u16; 4096], n: usize, names: &mut [u16; 4096])
+pub(crate) fn lay_names(spot: &[u16; 4096], n: usize, names: &mut [u16; 4096])
     requires { ⌜ Spots n (now spot) ⌝ }
     ensures { λ _. ⌜ Laid 0 n (now (spot .entry)) (λ v. v) (now (names .exit)) ⌝ }
 {
@@ -21,7 +21,7 @@ pub fn lay_names(spot: &[u16; 4096], n: usize, names: &mut [u16; 4096])
 }
 
 // Where the run of each place ends.
-pub fn lay_stops(spot: &[u16; 4096], size: &[u16; 4096], n: usize, stops: &mut [u16; 4096])
+pub(crate) fn lay_stops(spot: &[u16; 4096], size: &[u16; 4096], n: usize, stops: &mut [u16; 4096])
     requires { ⌜ Spots n (now spot) ⌝ }
     requires { ⌜ ((v : ℕ) → v < n → at (now spot) v + at (now size) v ≤ n) ⌝ }
     ensures { λ _. ⌜ Laid 0 n (now (spot .entry)) (λ v. at (now (spot .entry)) v + at (now (size .entry)) v) (now (stops .exit)) ⌝ }
@@ -36,7 +36,7 @@ pub fn lay_stops(spot: &[u16; 4096], size: &[u16; 4096], n: usize, stops: &mut [
 }
 
 // The spot of another node for each place but the root's: of its head, or of its parent.
-pub fn lay_spots(spot: &[u16; 4096], from: &[u16; 4096], n: usize, to: &mut [u16; 4096])
+pub(crate) fn lay_spots(spot: &[u16; 4096], from: &[u16; 4096], n: usize, to: &mut [u16; 4096])
     requires { ⌜ Spots n (now spot) ⌝ }
     requires { ⌜ ((v : ℕ) → 1 ≤ v → v < n → at (now from) v < n) ⌝ }
     ensures { λ _. ⌜ Laid 1 n (now (spot .entry)) (λ v. at (now (spot .entry)) (at (now (from .entry)) v)) (now (to .exit)) ⌝ }
@@ -52,7 +52,7 @@ pub fn lay_spots(spot: &[u16; 4096], from: &[u16; 4096], n: usize, to: &mut [u16
 }
 
 // What stands at each node, by place.
-pub fn lay_long(spot: &[u16; 4096], from: &[u64; 4096], n: usize, to: &mut [u64; 4096])
+pub(crate) fn lay_long(spot: &[u16; 4096], from: &[u64; 4096], n: usize, to: &mut [u64; 4096])
     requires { ⌜ Spots n (now spot) ⌝ }
     ensures { λ _. ⌜ Laid 0 n (now (spot .entry)) (λ v. at (now (from .entry)) v) (now (to .exit)) ⌝ }
 {

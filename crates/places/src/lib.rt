@@ -5,7 +5,7 @@ ghost use Prim.Native.Nat.{_<_};
 ghost use Rattle.tree.specs.Grown.{Grown};
 ghost use Rattle.tree.specs.Value.{Value};
 ghost use Rattle.paths.specs.Ground.{Ground};
-ghost use Rattle.places.specs.Heaviest.{Heaviest};
+ghost use Rattle.places.specs.BestPair.{BestPair};
 ghost use Rattle.places.specs.Laid.{Numbering, LaidOut};
 use crate::laid::lay_long;
 use crate::laid::lay_names;
@@ -110,7 +110,7 @@ pub fn heaviest_pair(
 ) -> Best
     requires { ⌜ Ground n (now parent) (now order) (now place) (now bl) (now bw) ⌝ }
     requires { ⌜ bound < 4294967296 ⌝ }
-    ensures { λ r. ⌜ ((g : Ground n (now (parent .entry)) (now (order .entry)) (now (place .entry)) (now (bl .entry)) (now (bw .entry))) → Heaviest (Value (g .u) (g .v) (g .k) (g .long) (g .heavy)) n bound r) ⌝ }
+    ensures { λ r. ⌜ ((g : Ground n (now (parent .entry)) (now (order .entry)) (now (place .entry)) (now (bl .entry)) (now (bw .entry))) → BestPair (Value (g .u) (g .v) (g .k) (g .long) (g .heavy)) n bound r) ⌝ }
 {
     let mut stops: [u16; 4096] = [0; 4096];
     let mut heads: [u16; 4096] = [0; 4096];

@@ -39,7 +39,7 @@ fn seat_of(
 }
 
 // The spot of each node.
-pub fn seats(
+pub(crate) fn seats(
     parent: &[u16; 4096],
     order: &[u16; 4096],
     place: &[u16; 4096],

@@ -5,7 +5,7 @@ ghost use Rattle.runs.specs.Items.{Owned, ItemEnd, Cut};
 use arrays::wide;
 
 // Whether the item at i is a node of the spine of h.
-pub fn own(head: &[u16; 4096], h: usize, i: usize) -> bool
+pub(crate) fn own(head: &[u16; 4096], h: usize, i: usize) -> bool
     requires { ⌜ i < 4096 ⌝ }
     ensures { λ r. ⌜ Owned (now (head .entry)) h i r ⌝ }
 {
@@ -16,7 +16,7 @@ pub fn own(head: &[u16; 4096], h: usize, i: usize) -> bool
 }
 
 // Where the item at i of the spine of h ends.
-pub fn item_end(stop: &[u16; 4096], head: &[u16; 4096], h: usize, i: usize) -> usize
+pub(crate) fn item_end(stop: &[u16; 4096], head: &[u16; 4096], h: usize, i: usize) -> usize
     requires { ⌜ i < 4096 ⌝ }
     ensures { λ r. ⌜ ItemEnd (now (stop .entry)) (now (head .entry)) h i r ⌝ }
 {
@@ -27,7 +27,7 @@ pub fn item_end(stop: &[u16; 4096], head: &[u16; 4096], h: usize, i: usize) -> u
 }
 
 // The boundary of items nearest the middle of a part of two items or more.
-pub fn split(
+pub(crate) fn split(
     stop: &[u16; 4096],
     head: &[u16; 4096],
     parent: &[u16; 4096],

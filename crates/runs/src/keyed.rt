@@ -39,7 +39,7 @@ fn put(out: &mut [u16; 4096], s: usize)
 }
 
 // A node of the spine: both lists are it alone, and it hangs at itself.
-pub fn alone(
+pub(crate) fn alone(
     x: &mut [u16; 4096],
     y: &mut [u16; 4096],
     ku: &mut [u64; 4096],
@@ -60,7 +60,7 @@ pub fn alone(
 }
 
 // A hanging tree: its down list x serves as both, and each of its places hangs at the tree's parent.
-pub fn hang(
+pub(crate) fn hang(
     parent: &[u16; 4096],
     x: &[u16; 4096],
     y: &mut [u16; 4096],

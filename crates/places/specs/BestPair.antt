@@ -1,4 +1,4 @@
--- The heaviest pair of nodes of a net. The code carries a pair's length and weight lifted by 2^40.
+-- The best pair of nodes of a net. The code carries a pair's length and weight lifted by 2^40.
 use Prim.Native.Nat.{ℕ, _+_, _≤_, _<_}
 use mathlib.Core.Path.{_≡_}
 use mathlib.Core.Logic.{_⊎_}
@@ -25,6 +25,6 @@ module _ (Value : ℕ → ℕ → ℕ → ℤ → Type 0) (n : ℕ) where
     pub high : b .high ≡ y
 
   -- r is at least as good as every pair within the bound, and is one of them; or there is none
-  pub record Heaviest (bound : ℕ) (r : Best) : Type 0 where
+  pub record BestPair (bound : ℕ) (r : Best) : Type 0 where
     pub beats : (x y : ℕ) → x < y → y < n → (b : Best) × Carried x y b × (b .length ≤ bound + lift → Le b r)
     pub comes : (r ≡ best4 0 0 0 0) ⊎ (Carried (r .low) (r .high) r × (r .length ≤ bound + lift))
