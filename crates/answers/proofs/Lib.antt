@@ -13,3 +13,4 @@ pub mod PairHolders
 pub mod PairTheorems
 pub mod Demand2
 pub mod Few
+pub mod AnswerOnly
