@@ -16,7 +16,7 @@ use Rattle.lists.specs.declared.across.Best.{Best}
 use Rattle.runs.specs.Lift.{lift}
 use Rattle.places.specs.BestPair.{Carried, BestPair}
 use Rattle.answers.specs.PathOf.{PathOf}
-use Rattle.answers.specs.Heaviest.{found, Runs, AtLeast, Heaviest, Gives}
+use Rattle.answers.specs.Heaviest.{found, Runs, AtLeast, Gives}
 
 equally : {a b : ℕ} {y z : ℤ} → y ≡ z → Diff a b z → Diff a b y
 equally e h = rw e h
