@@ -1,5 +1,4 @@
-// The worked net of document 01, run by the gate: every operation on N5, and what it answers; and a net whose root has two children (slip 2). A name handed
-// on at each call would cost the check more than the numbers that a line begins with.
+// The worked net of document 01, run by the gate: every operation on N5, and what it answers; and a net whose root has two children (slip 2).
 ghost use Prim.Native.Nat.{_<_};
 use answers::Listed;
 use answers::PairAnswer;
@@ -197,7 +196,13 @@ fn heaviest(bound: u8, marks: [u16; 4]) {
     run_said(answers::heaviest(&t, &marks));
 }
 
-fn pair_said(r: PairAnswer) {
+// `pair 2 4: 11 6 2`
+fn pair(t: &[u8], free: &[u16], a: u16, b: u16) {
+    say(b"pair");
+    number(a as u64);
+    number(b as u64);
+    say(b":");
+    let r = answers::pair(t, free, a, b);
     match r {
         PairAnswer::Refused(why) => refused(why),
         PairAnswer::Found {
@@ -211,15 +216,6 @@ fn pair_said(r: PairAnswer) {
         }
     }
     end();
-}
-
-// `pair 2 4: 11 6 2`
-fn pair(t: &[u8], free: &[u16], a: u16, b: u16) {
-    say(b"pair");
-    number(a as u64);
-    number(b as u64);
-    say(b":");
-    pair_said(answers::pair(t, free, a, b));
 }
 
 fn wide(x: u8) -> u64 {
@@ -247,6 +243,7 @@ fn nodes(rows: &[u8], written: usize) {
 }
 
 fn listed(r: Listed, rows: &[u8]) {
+    say(b":");
     match r {
         Listed::Refused(why) => refused(why),
         Listed::Rows { written, left } => {
@@ -258,25 +255,18 @@ fn listed(r: Listed, rows: &[u8]) {
     end();
 }
 
-// `listing after 0 0: 0 2 1 3 2 3 left 0`
+// `listing 7 after 0 0 room 256: 0 2 1 3 2 3 left 0`, where 7 is the floor; one below all weights is shown as -8589934592, the least that is lifted.
 fn listing(t: &[u8], floor: i64, low: u16, high: u16, rows: &mut [u8]) {
     let free = [0u16; 4];
-    say(b"listing after");
+    say(b"listing");
+    weight(floor);
+    say(b" after");
     number(low as u64);
     number(high as u64);
-    say(b":");
+    say(b" room");
+    number(rows.len() as u64);
     let r = answers::listing(t, &free, floor, low, high, rows);
     listed(r, rows);
-}
-
-// `room 16, listing after 0 0: 0 2 left 2`
-fn room(t: &[u8], rows: &mut [u8], n: usize) {
-    if n <= rows.len() {
-        say(b"room");
-        number(n as u64);
-        say(b", ");
-        listing(t, 7, 0, 0, &mut rows[0..n]);
-    }
 }
 
 fn told(c: Change, marks: &[u16]) {
@@ -319,19 +309,16 @@ fn abort(t: &[u8], run: u16, marks: &mut [u16]) {
     told(c, marks);
 }
 
-fn heads_said(h: HeadsAnswer) {
-    match h {
-        HeadsAnswer::Refused(why) => refused(why),
-        HeadsAnswer::Written => say(b" written"),
-    }
-}
-
 // `heads of 5: written now 0 0 0 3 3`
 fn heads(t: &[u8], list: &mut [u16]) {
     say(b"heads of");
     number(list.len() as u64);
     say(b":");
-    heads_said(spines::heads(t, list));
+    let h = spines::heads(t, list);
+    match h {
+        HeadsAnswer::Refused(why) => refused(why),
+        HeadsAnswer::Written => say(b" written"),
+    }
     say(b" now");
     words(list);
     end();
@@ -356,17 +343,12 @@ fn pairs(t: &[u8], free: &[u16]) {
 }
 
 fn floors(t: &[u8], rows: &mut [u8]) {
-    say(b"floor 7, ");
     listing(t, 7, 0, 0, rows);
-    say(b"floor 10, ");
     listing(t, 10, 0, 0, rows);
-    say(b"lowest floor, ");
     listing(t, -9223372036854775808, 0, 0, rows);
-    say(b"highest floor, ");
     listing(t, 9223372036854775807, 0, 0, rows);
 }
 
-// Floor 7, from other starting pairs, and into less room.
 fn starts(t: &[u8], rows: &mut [u8]) {
     listing(t, 7, 0, 2, rows);
     listing(t, 7, 2, 0, rows);
@@ -374,11 +356,15 @@ fn starts(t: &[u8], rows: &mut [u8]) {
     listing(t, 7, 65535, 65535, rows);
 }
 
-fn rooms(t: &[u8], rows: &mut [u8]) {
-    room(t, rows, 15);
-    room(t, rows, 16);
-    room(t, rows, 31);
-    room(t, rows, 32);
+fn rooms(t: &[u8]) {
+    let mut a = [0u8; 15];
+    listing(t, 7, 0, 0, &mut a);
+    let mut b = [0u8; 16];
+    listing(t, 7, 0, 0, &mut b);
+    let mut c = [0u8; 31];
+    listing(t, 7, 0, 0, &mut c);
+    let mut d = [0u8; 32];
+    listing(t, 7, 0, 0, &mut d);
 }
 
 fn held(t: &[u8], m: &mut [u16]) {
@@ -407,7 +393,7 @@ fn listings(t: &[u8]) {
     let mut rows = [0u8; 256];
     floors(t, &mut rows);
     starts(t, &mut rows);
-    rooms(t, &mut rows);
+    rooms(t);
 }
 
 fn changes(t: &[u8]) {

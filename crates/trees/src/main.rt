@@ -42,45 +42,45 @@ fn pair_of(low: u8, high: u8) -> u16 {
     wide(low) + 256 * wide(high)
 }
 
-fn size_of(low: u8, high: u8) -> usize
-    ensures { λ r. ⌜ r < 65536 ⌝ }
-{
-    let x = pair_of(low, high);
-    arrays::wide(x)
-}
-
 fn quad_of(x: u16, y: u16) -> u64
     ensures { λ r. ⌜ r < 4294967296 ⌝ }
 {
     (x as u64) + 65536 * (y as u64)
 }
 
+// Numbers of two and four bytes in a case's head.
+fn word(h: &[u8; 32], i: usize) -> u16
+    requires { ⌜ i < 31 ⌝ }
+{
+    pair_of(h[i], h[i + 1])
+}
+
+fn quad(h: &[u8; 32], i: usize) -> u64
+    requires { ⌜ i < 29 ⌝ }
+    ensures { λ r. ⌜ r < 4294967296 ⌝ }
+{
+    quad_of(word(h, i), word(h, i + 2))
+}
+
 fn sizes_of(h: &[u8; 32]) -> Sizes {
     Sizes {
-        table: size_of(h[0], h[1]),
-        marks: size_of(h[2], h[3]),
-        room: size_of(h[16], h[17]),
-        heads: size_of(h[18], h[19]),
+        table: arrays::wide(word(h, 0)),
+        marks: arrays::wide(word(h, 2)),
+        room: arrays::wide(word(h, 16)),
+        heads: arrays::wide(word(h, 18)),
     }
 }
 
-fn lifted_of(h: &[u8; 32]) -> u64 {
-    let low = quad_of(pair_of(h[22], h[23]), pair_of(h[24], h[25]));
-    let high = quad_of(pair_of(h[26], h[27]), pair_of(h[28], h[29]));
-    low + 4294967296 * (high % 16)
-}
-
 fn ask_of(h: &[u8; 32]) -> Ask {
-    let lifted = lifted_of(h);
     Ask {
-        run: pair_of(h[4], h[5]),
-        other: pair_of(h[6], h[7]),
-        a: pair_of(h[8], h[9]),
-        b: pair_of(h[10], h[11]),
-        low: pair_of(h[12], h[13]),
-        high: pair_of(h[14], h[15]),
-        kind: pair_of(h[20], h[21]),
-        lifted: lifted,
+        run: word(h, 4),
+        other: word(h, 6),
+        a: word(h, 8),
+        b: word(h, 10),
+        low: word(h, 12),
+        high: word(h, 14),
+        kind: word(h, 20),
+        lifted: quad(h, 22) + 4294967296 * (quad(h, 26) % 16),
     }
 }
 
