@@ -1,4 +1,4 @@
--- DEMAND 3 of the operation listing: for one table, one set of marks and any floor, calls from (0, 0) until none is left, each lending 16 bytes or more, each going on after the last row given, write the whole listing: every qualifying pair, lower node first, each once, in order. Over any length test; today's is "at most B".
+-- DEMAND 3 of the operation listing: for one table, one set of marks and any floor, calls from (0, 0) until none is left, each lending 16 bytes or more, each going on after the last row given, write the whole listing: every qualifying pair, lower node first, each once, in order. Over any length test; the listing's own is "at most B".
 use Prim.Native.Nat.{ℕ, zero, suc, _+_, _≤_, _<_}
 use mathlib.Core.Path.{_≡_, ap, _∙_}
 use mathlib.Core.List.{List, _++_}

@@ -1,6 +1,8 @@
 // The report's lines, in a lent buffer. A row of a page is 16 bytes: node, node, length, weight.
 ghost use Prim.Native.Nat.{_+_, _*_, _-_, _≤_, _<_};
+ghost use mathlib.Core.Path.{_≡_};
 ghost use lib.ListN.{length};
+ghost use Rattle.table.specs.Bytes.{u16At};
 use crate::text::LINE_END;
 use crate::text::SPACE;
 use crate::text::put_bits;
@@ -9,7 +11,7 @@ use crate::text::put_number;
 use crate::text::put_word;
 
 fn wide(x: u8) -> u64
-    ensures { λ r. ⌜ r < 256 ⌝ }
+    ensures { λ r. ⌜ (r ≡ x) × (r < 256) ⌝ }
 {
     x as u64
 }
@@ -17,7 +19,7 @@ fn wide(x: u8) -> u64
 // Numbers of two, four and eight bytes, lowest first.
 pub(crate) fn two(rows: &[u8], i: usize) -> u64
     requires { ⌜ i + 2 ≤ length (now rows) ⌝ }
-    ensures { λ r. ⌜ r < 65536 ⌝ }
+    ensures { λ r. ⌜ (r ≡ u16At (now (rows .entry)) i) × (r < 65536) ⌝ }
 {
     wide(rows[i]) + 256 * wide(rows[i + 1])
 }

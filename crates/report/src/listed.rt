@@ -1,6 +1,7 @@
 // The pairs that weigh as much as the heaviest run, page after page, and their number.
 ghost use Prim.Native.Nat.{_+_, _*_, _≤_, _<_};
 ghost use lib.ListN.{length};
+ghost use Rattle.report.specs.Asked.{Asked, Begun};
 use crate::lines;
 use crate::output::send;
 use answers::Listed;
@@ -37,7 +38,7 @@ fn page(out: &mut [u8], rows: &[u8], count: usize)
 
 // A page of the pairs after (low, high). After acceptance and heaviest nothing is left to refuse; a refusal would end the listing.
 fn ask(table: &[u8], marks: &[u16], floor: i64, low: u16, high: u16, rows: &mut [u8]) -> Count
-    ensures { λ r. ⌜ (16 * r .written ≤ length (now (rows .exit))) × (r .written + r .left ≤ 16777216) ⌝ }
+    ensures { λ r. ⌜ (16 * r .written ≤ length (now (rows .exit))) × (r .written + r .left ≤ 16777216) × (0 < r .left → Asked (now (table .entry)) (now (marks .entry)) floor low high (now (rows .exit)) (r .written) (r .left)) ⌝ }
 {
     let o = answers::listing(table, marks, floor, low, high, rows);
     match o {
@@ -49,8 +50,7 @@ fn ask(table: &[u8], marks: &[u16], floor: i64, low: u16, high: u16, rows: &mut 
     }
 }
 
-// The pages after the first, each from the last row of the one before, until none is left. Each leaves fewer than the one before (`fewer-left`, answers'
-// proofs/Demand3); that is not proved of this loop, and so it has two tests by which it is seen to end.
+// The pages after the first, each from the last row of the one before, until none is left: each leaves fewer than the one before.
 fn later_pages(
     table: &[u8],
     marks: &[u16],
@@ -59,22 +59,16 @@ fn later_pages(
     rows: &mut [u8],
     out: &mut [u8],
 )
-    requires { ⌜ (16 * first .written ≤ length (now rows)) × (65536 ≤ length (now out)) ⌝ }
+    requires { ⌜ (16 * first .written ≤ length (now rows)) × (65536 ≤ length (now out)) × (0 < first .left → Begun (now table) (now marks) floor (now rows) (first .written) (first .left)) ⌝ }
 {
     let mut written = first.written;
     let mut left = first.left;
     while left > 0 {
-        if written == 0 {
-            return;
-        }
         let at = 16 * (written - 1);
         let low = lines::two(rows, at) as u16;
         let high = lines::two(rows, at + 2) as u16;
         let k = ask(table, marks, floor, low, high, rows);
         written = k.written;
-        if left <= k.left {
-            return;
-        }
         left = k.left;
         page(out, rows, written);
     }

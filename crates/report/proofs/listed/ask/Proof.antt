@@ -1,7 +1,11 @@
 -- `ask` hands on what a page gives: its rows stand in the lent bytes, and with those left over they are at most 4,096 × 4,096.
 use mathlib.Core.Path.{refl}
+use native.Mathlib.Omega.{arith}
+use Rattle.report.proofs.Pages.{page-asked}
 use Rattle.answers.proofs.Few.{listing-room, listing-few}
 use borrow.Author.Needs.{needs}
+use mir.Syntax.{w64}
+use mir.ValLaws.{toZ-ofZ}
 use Rattle.report.proofs.listed.ask.Statement.{statement}
 use Rattle.report.proofs.listed.ask.Tie as tie
 
@@ -18,7 +22,7 @@ same-length : tie.Need-same-length
 same-length c = search needs
 
 returns : tie.Need-returns
-returns c = search needs
+returns c = (omega arith, omega arith, λ h. absurd (omega (arith, h)))
 
 same-length-2 : tie.Need-same-length-2
 same-length-2 c = search needs
@@ -26,7 +30,8 @@ same-length-2 c = search needs
 returns-2 : tie.Need-returns-2
 returns-2 c =
     let p = rw (c .before .o .given .1) at (c .before .before .before .before .before .listing .ensures) in
-    (listing-room _ _ _ _ _ _ _ refl p, listing-few _ _ _ _ _ _ _ refl p)
+    let e = toZ-ofZ w64 (c .before .before .before .before .before .before .before .before .before .before .args .floor) (c .before .before .before .before .before .before .before .before .before .before .fits .floor) in
+    (listing-room _ _ _ _ _ _ _ refl p, listing-few _ _ _ _ _ _ _ refl p, λ h. rw e at (page-asked p))
 
 pub ask-spec : {M : Type 1} → statement M
 ask-spec =

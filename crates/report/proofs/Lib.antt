@@ -1,0 +1,2 @@
+-- Laws of the report, by topic.
+pub mod Pages
