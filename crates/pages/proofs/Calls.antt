@@ -1,4 +1,4 @@
--- Calls over a caller's bytes are a run of pages: the two nodes read out of the last row written are that row's.
+-- Calls over a caller's bytes are pages one after the other: the two nodes read out of the last row written are that row's.
 use Prim.Native.Nat.{ℕ, _+_, _-_, _*_, _/_, _≤_, _<_}
 use mathlib.Core.Path.{_≡_, refl, ap}
 use mathlib.Core.List.{List, [], _∷_, _++_}
@@ -7,7 +7,7 @@ use lib.ListN.{length, getD, take, drop, length-append, take-append-drop}
 use lib.Seq.{take-append-seam}
 use Rattle.table.specs.Bytes.{u16At}
 use Rattle.pages.specs.Listing.{Entry, In, at}
-use Rattle.pages.specs.Page.{Run, ends, goes}
+use Rattle.pages.specs.Page.{PagesFrom, ends, goes}
 use Rattle.pages.specs.Bytes.{row, rows}
 use Rattle.pages.specs.Calls.{Paged, Calls, done, again}
 use Rattle.pages.proofs.Members.{in-left, in-right}
@@ -39,11 +39,11 @@ module _ {P : Entry → Type 0} (small : (e : Entry) → P e → (e .low < 65536
       second-is front e q =
           rw (byte front e q (16 * (given - 1) + 2) 2 refl (omega arith), byte front e q (16 * (given - 1) + 2 + 1) 3 (omega arith) (omega arith), row-nodes e .2, row-nodes e .3) (omega (arith, small e (last-in front e q) .1))
 
-  pub calls-run : {s t : ℕ} {joined : List Entry} → Calls P s t joined → Run P s t joined
-  calls-run (done {old} h c) = ends {room = length old / 16} (omega arith) (c .page)
-  calls-run (again {old} h c z r) =
+  pub calls-pages : {s t : ℕ} {joined : List Entry} → Calls P s t joined → PagesFrom P s t joined
+  calls-pages (done {old} h c) = ends {room = length old / 16} (omega arith) (c .page)
+  calls-pages (again {old} h c z r) =
       let w = last-given h c z in
-      goes {room = length old / 16} (w .0) (w .1) (omega arith) (c .page) z (w .2) (rw (w .3, w .4) at (calls-run r))
+      goes {room = length old / 16} (w .0) (w .1) (omega arith) (c .page) z (w .2) (rw (w .3, w .4) at (calls-pages r))
 
   -- the next start is two numbers of 16 bits
   pub calls-next : {s t given left : ℕ} {old now : List ℕ} → 16 ≤ length old → Paged P s t old given left now → 0 < left → (u16At now (16 * (given - 1)) < 65536) × (u16At now (16 * (given - 1) + 2) < 65536)

@@ -1,4 +1,4 @@
--- Pages: one at the most; what follows a row of the list is what stands after it, so that a run of pages joins up to the whole; each page begins with fewer to give, and gives some where some follow.
+-- Pages: one at the most; what follows a row of the list is what stands after it, so that pages one after the other join up to the whole; each page begins with fewer to give, and gives some where some follow.
 use Prim.Native.Nat.{ℕ, _+_, _≤_, _<_}
 use mathlib.Core.Path.{_≡_, refl, sym, ap, _∙_}
 use mathlib.Core.Logic.{_⊎_, inl, inr}
@@ -8,7 +8,7 @@ use native.Mathlib.Decide.{decLt}
 use lib.ListN.{length, take, drop, take-append-drop, length-drop, length-take}
 use lib.Seq.{take-all}
 use Rattle.pages.specs.Listing.{Entry, Before, In, at, past, Listing}
-use Rattle.pages.specs.Page.{Following, Page, Run, ends, goes}
+use Rattle.pages.specs.Page.{Following, Page, PagesFrom, ends, goes}
 use Rattle.pages.proofs.Order.{after-trans, after-self, after-both, after-start}
 use Rattle.pages.proofs.Members.{in-one, in-left, in-right, in-split}
 use Rattle.pages.proofs.Rising.{rising-right, rising-left, rising-across}
@@ -46,10 +46,10 @@ module _ {P : Entry → Type 0} where
   page-whole : {s t room : ℕ} {given : List Entry} (p : Page P s t room given 0) → given ≡ p .rows
   page-whole {room} {given} p = p .fit ∙ take-all room (p .rows) (omega (arith, ap length (p .fit), length-take room (p .rows), p .rest))
 
-  -- A page's rows and what the run gives after them are all that follows its start
-  pub run-listing : {s t : ℕ} {joined : List Entry} → Run P s t joined → Listing (Following P s t) joined
-  run-listing (ends k p) = rw (page-whole p) (p .all)
-  run-listing (goes {room} {given} {later} front e k p z q r) = rw (joined (listing-only (page-next front e p q) (run-listing r))) (p .all)
+  -- A page's rows and what the pages after it give are all that follows its start
+  pub pages-listing : {s t : ℕ} {joined : List Entry} → PagesFrom P s t joined → Listing (Following P s t) joined
+  pages-listing (ends k p) = rw (page-whole p) (p .all)
+  pages-listing (goes {room} {given} {later} front e k p z q r) = rw (joined (listing-only (page-next front e p q) (pages-listing r))) (p .all)
     where
       joined : drop room (p .rows) ≡ later → given ++ later ≡ p .rows
       joined h = rw (p .fit, ← h) (take-append-drop room (p .rows))

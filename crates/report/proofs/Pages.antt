@@ -1,5 +1,5 @@
 -- Pages asked for one after the other: a call that was not refused is one; where rows are left over a page has some, and the page that goes on after its last row leaves fewer. By demand 3's `fewer-left`.
-use Prim.Native.Nat.{ℕ, _+_, _-_, _*_, _/_, _≤_, _<_}
+use Prim.Native.Nat.{ℕ, _+_, _-_, _*_, _/_, _<_}
 use mathlib.Core.Path.{_≡_, refl, ap}
 use mathlib.Core.Bool.{false}
 use mathlib.Core.List.{List}

@@ -1,5 +1,4 @@
 // Sweeps over the walk's arrays: the leaves below each node, its main child, its head.
-ghost use mathlib.Core.Path.{_≡_};
 ghost use Prim.Native.Nat.{_≤_, _<_};
 ghost use Rattle.tree.specs.Grown.{Grown};
 ghost use Rattle.spines.specs.Parents.{HeadsAll};

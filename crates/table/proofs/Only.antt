@@ -14,9 +14,8 @@ use Rattle.table.specs.Signed.{Within}
 use Rattle.table.specs.Row.{Stands, PartOf, NextOf, RowOf, rowAt}
 use Rattle.table.specs.Reader.{HeldOf, Stepped, FirstOf}
 use Rattle.table.specs.Lift.{LiftedOf, LoweredOf}
-use Rattle.table.specs.Examine.{RowNumber, Tested}
+use Rattle.table.specs.Examine.{Tested}
 use Rattle.table.specs.Outcome.{refusal, Opens, Examines}
-use Rattle.table.specs.declared.Row.{Row}
 use Rattle.table.proofs.Refusals.{unless-only, first-bad-only}
 use Rattle.table.proofs.Accepted.{row-number-only}
 use Rattle.table.proofs.Lift.{diff-only, lift-only}

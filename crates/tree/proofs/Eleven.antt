@@ -6,7 +6,7 @@ use mathlib.Core.Logic.{_⊎_, inl, inr, _≢_}
 use mathlib.Core.List.{List}
 use native.Mathlib.Omega.{arith}
 use native.Mathlib.Decide.{ℕ-discrete}
-use Rattle.table.specs.Refuse.{Unless, refused, passed, FirstBad, bad, fine, Only}
+use Rattle.table.specs.Refuse.{refused, passed, bad, fine}
 use Rattle.table.specs.Header.{nodesOf, boundOf}
 use Rattle.table.specs.Outcome.{Outcome, refusal, found, Examines}
 use Rattle.table.proofs.Refusals.{unless-only, past-rows}

@@ -3,7 +3,7 @@
 mod say;
 
 ghost use mathlib.Core.Path.{_≡_};
-ghost use Prim.Native.Nat.{_<_, _≤_};
+ghost use Prim.Native.Nat.{_<_};
 use answers::Listed;
 use answers::PairAnswer;
 use answers::Run;

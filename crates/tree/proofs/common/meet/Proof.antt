@@ -2,17 +2,12 @@
 -- The measure is the sum of the two places.
 use Rattle.arrays.specs.Filled.{at}
 use Rattle.tree.proofs.Meeting.{Meeting, meeting-start, meeting-step, meeting-flip, meeting-end, later-low, apart-later}
-use Prim.Native.Nat.{ℕ, _+_, _-_, _≤_, _<_}
-use mathlib.Core.Path.{_≡_, refl, sym, ap, _∙_}
-use mathlib.Core.Logic.{⊎-elim, inl, inr}
+use Prim.Native.Nat.{_+_, _-_}
+use mathlib.Core.Path.{ap}
 use native.Mathlib.Omega.{arith}
-use lib.ListN.{length, getD, set}
 use borrow.Author.Needs.{needs}
 use Rattle.tree.proofs.common.meet.Statement.{statement}
 use Rattle.tree.proofs.common.meet.Tie as tie
-use Rattle.tree.proofs.common.meet.Reads as reads
-use Rattle.tree.proofs.common.meet.Lts as lts
-use Rattle.arrays.proofs.wide.Reads as wide-reads
 
 abbrev Inv-loop : tie.InvT-loop
 Inv-loop parent place n x y a₀ b₀ a b = Meeting n (at parent) x y a b
