@@ -12,8 +12,8 @@ pub record Asked (s marks : List ℕ) (floor : ℤ) (low high : ℕ) (rows : Lis
   pub room : 16 ≤ length lent
   pub call : ListingOf s marks floor low high lent (record { refused = false; number = 0; row = 0; written = written; left = left; bytes = rows })
 
--- some such call, from wherever it started, if any row is left over
-pub record Begun (s marks : List ℕ) (floor : ℤ) (rows : List ℕ) (written left : ℕ) : Type 0 where
+-- some such call, from wherever it started
+pub record SomeAsked (s marks : List ℕ) (floor : ℤ) (rows : List ℕ) (written left : ℕ) : Type 0 where
   pub low : ℕ
   pub high : ℕ
   pub asked : Asked s marks floor low high rows written left

@@ -1,7 +1,7 @@
 // The pairs that weigh as much as the heaviest run, page after page, and their number.
 ghost use Prim.Native.Nat.{_+_, _*_, _≤_, _<_};
 ghost use lib.ListN.{length};
-ghost use Rattle.report.specs.Asked.{Asked, Begun};
+ghost use Rattle.report.specs.Asked.{Asked, SomeAsked};
 use crate::lines;
 use crate::output::send;
 use answers::Listed;
@@ -59,7 +59,7 @@ fn later_pages(
     rows: &mut [u8],
     out: &mut [u8],
 )
-    requires { ⌜ (16 * first .written ≤ length (now rows)) × (65536 ≤ length (now out)) × (0 < first .left → Begun (now table) (now marks) floor (now rows) (first .written) (first .left)) ⌝ }
+    requires { ⌜ (16 * first .written ≤ length (now rows)) × (65536 ≤ length (now out)) × (0 < first .left → SomeAsked (now table) (now marks) floor (now rows) (first .written) (first .left)) ⌝ }
 {
     let mut written = first.written;
     let mut left = first.left;

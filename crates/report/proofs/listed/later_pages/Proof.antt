@@ -7,14 +7,14 @@ use mir.Syntax.{w64}
 use mir.Val.{toZ}
 use mir.ValLaws.{toZ-ofZ}
 use lib.ListN.{length}
-use Rattle.report.specs.Asked.{Begun}
+use Rattle.report.specs.Asked.{SomeAsked}
 use Rattle.report.proofs.Pages.{page-some, page-fewer, fewer-or-none}
 use Rattle.report.proofs.listed.later_pages.Statement.{statement}
 use Rattle.report.proofs.listed.later_pages.Tie as tie
 
 abbrev Inv-loop : tie.InvT-loop
 Inv-loop table marks floor rows₀ out₀ written₀ left₀ rows out written left =
-    (16 * written ≤ length rows) × (65536 ≤ length out₀) × (length out ≡ length out₀) × (length rows ≡ length rows₀) × (0 < left → Begun table marks (toZ w64 floor) rows written left)
+    (16 * written ≤ length rows) × (65536 ≤ length out₀) × (length out ≡ length out₀) × (length rows ≡ length rows₀) × (0 < left → SomeAsked table marks (toZ w64 floor) rows written left)
 
 abbrev μ-loop : tie.MeasureT-loop
 μ-loop table marks floor rows₀ out₀ written₀ left₀ rows out written left = left
