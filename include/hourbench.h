@@ -1,4 +1,4 @@
-/* Hourbench for C: the heaviest run in one routed net. Link target/staticlib/libcapi.a (`rt staticlib capi`), x86-64 Linux.
+/* Hourbench for C: the heaviest run in one routed net. Link libhourbench.a (docs/LINKING.md says how it is made), x86-64 Linux.
 
    Every function returns the refusal number, 0 where nothing is refused, and writes all 8 of `answer`:
 
@@ -38,6 +38,12 @@
 
 #include <stddef.h>
 #include <stdint.h>
+
+/* The library's version; CHANGES.md says how it moves. */
+#define HB_VERSION "1.0.0"
+#define HB_VERSION_MAJOR 1
+#define HB_VERSION_MINOR 0
+#define HB_VERSION_PATCH 0
 
 #ifdef __cplusplus
 extern "C" {

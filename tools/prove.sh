@@ -50,6 +50,7 @@ told() { # LOG MANY rt WORDS..
         while IFS= read -r line; do
             case $line in
             'rt: '*' proved ('* | 'rt: '*' NOT PROVED'*) k=$((k + 1)) && echo "$me: $k of $many: ${line#rt: }" >&2 ;;
+            'rt: target/staticlib/'*) k=$((k + 1)) && echo "$me: $k of $many: capi proved, the archive is written" >&2 ;;
             'rt: '*FAILED*) echo "$me: ${line#rt: }" >&2 ;;
             'ended '*) ended=${line#ended } ;;
             esac
@@ -79,4 +80,16 @@ prove_aside() { # NAME ROOM
         (cd "$2" && timeout 60 rt check "$1") </dev/null >"$2/log" 2>&1 && [ -r "$root/target/bin/$1" ] && return
     echo "$me: $root is not built as it stands, and you cannot write there: let its owner run ./report" >&2
     return 1
+}
+
+# Proves the library for C and Rust and writes target/staticlib/libcapi.a.
+prove_archive() { alone archive_here; }
+
+archive_here() {
+    many=$(made_of capi | wc -l)
+    echo "$me: checking the library for C and what it is made of, $many crates; the last is proved each time, in half a minute" >&2
+    told staticlib.log "$many" rt staticlib capi || {
+        echo "$me: it is not proved; $root/target/staticlib.log has why" >&2
+        return 1
+    }
 }
