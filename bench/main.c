@@ -1,5 +1,6 @@
-/* Measures the library beside the plain scan: one run, the same tables, marks and buffers, lent to both. Writes the figures to standard output and the
-   plot of heaviest to the file that the first argument names. Ends with status 1 where the two give different answers. */
+/* Measures the library beside the plain scan: one run, the same tables, marks and buffers, lent to both. Writes the figures to standard output, the
+   plot of heaviest, with the second argument below it, to the file that the first names, and how far it is to standard error. Ends with status 1 where the
+   two give different answers. */
 #include "hourbench.h"
 #include "nets.h"
 #include "scan.h"
@@ -11,7 +12,7 @@
 
 enum { SIZES = 3, OPS = 4, PAGE = 65536 };
 static const size_t sizes[SIZES] = {256, 1024, 4096};
-static const char *op_names[OPS] = {"heaviest", "listing", "pair", "claim+abort"};
+static const char *op_names[OPS] = {"Heaviest", "Listing", "Pair", "Claim and abort"};
 
 static uint8_t table[12 * 4096], page_scan[PAGE], page_library[PAGE];
 static uint16_t marks_scan[4096], marks_library[4096];
@@ -79,7 +80,7 @@ static void compare(int op, const char *shape) {
 static double low_y, high_y;
 static double y_of(double seconds) { return 420 - 370 * (log10(seconds) - low_y) / (high_y - low_y); }
 
-static void plot(const char *path) {
+static void plot(const char *path, const char *machine) {
     FILE *f = fopen(path, "w");
     if (!f) {
         perror(path);
@@ -126,18 +127,22 @@ static void plot(const char *path) {
             fprintf(f, "<text x=\"602\" y=\"%.1f\" fill=\"%s\">%s</text>\n", y, colour[w], shape_names[s]);
         }
     }
-    fprintf(f, "<text x=\"90\" y=\"466\" fill=\"#555\">Both axes logarithmic. Drawn by tools/bench.</text>\n</svg>\n");
-    fclose(f);
+    fprintf(f, "<text x=\"90\" y=\"466\" fill=\"#555\">Both axes logarithmic. Drawn by tools/bench on %s.</text>\n</svg>\n", machine);
+    if (fclose(f)) {
+        perror(path);
+        exit(2);
+    }
 }
 
 int main(int argc, char **argv) {
-    if (argc != 2) {
-        fprintf(stderr, "usage: bench PLOT.svg\n");
+    if (argc != 3) {
+        fprintf(stderr, "usage: bench PLOT.svg MACHINE\n");
         return 2;
     }
     for (int s = 0; s < SHAPES; s++)
         for (int z = 0; z < SIZES; z++) {
             n = sizes[z];
+            fprintf(stderr, "bench: %d of %d: %s, %zu nodes\n", s * SIZES + z + 1, SHAPES * SIZES, shape_names[s], n);
             table_len = make_net(s, n, table);
             memset(marks_scan, 0, sizeof marks_scan), memset(marks_library, 0, sizeof marks_library);
             memset(page_scan, 0, PAGE), memset(page_library, 0, PAGE);
@@ -149,7 +154,7 @@ int main(int argc, char **argv) {
             }
         }
     for (int op = 0; op < OPS; op++) {
-        printf("%s%s: milliseconds of a call, plain scan / library (times faster)\n\n", op ? "\n" : "", op_names[op]);
+        printf("#### %s\n\n", op_names[op]);
         printf("| shape | 256 nodes | 1,024 nodes | 4,096 nodes | scan grows | library grows |\n|---|---|---|---|---|---|\n");
         for (int s = 0; s < SHAPES; s++) {
             printf("| %s |", shape_names[s]);
@@ -159,8 +164,9 @@ int main(int argc, char **argv) {
             }
             printf(" %.1f-fold | %.1f-fold |\n", took[s][2][op][0] / took[s][1][op][0], took[s][2][op][1] / took[s][1][op][1]);
         }
+        printf("\n");
     }
-    printf("\nGrowth is from 1,024 to 4,096 nodes. %s\n", differ ? "ANSWERS DIFFER" : "All answers were equal.");
-    plot(argv[1]);
+    printf("%s\n", differ ? "ANSWERS DIFFER" : "All answers were equal.");
+    plot(argv[1], argv[2]);
     return differ;
 }

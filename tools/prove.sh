@@ -74,9 +74,9 @@ prove_here() { # NAME
     { rt version && echo "$from" && sha256sum <"$root/target/bin/$1"; } >"$root/target/$1.proved"
 }
 
-# The same in a clone that cannot be written: rt reads its own stamps in a folder of ours and finds nothing to prove, or the clone is not built.
+# The same in a clone that cannot be written: rt reads copies of its stamps in a folder of ours and finds nothing to prove, or the clone is not built.
 prove_aside() { # NAME ROOM
-    mkdir "$2/target" && cp -R "$root/target/stamp" "$2/target/" 2>/dev/null && ln -s "$root/crates" "$root/crates.txt" "$2/" &&
+    mkdir -p "$2/target/stamp" && cp "$root"/target/stamp/* "$2/target/stamp/" 2>/dev/null && ln -s "$root/crates" "$root/crates.txt" "$2/" &&
         (cd "$2" && timeout 60 rt check "$1") </dev/null >"$2/log" 2>&1 && [ -r "$root/target/bin/$1" ] && return
     echo "$me: $root is not built as it stands, and you cannot write there: let its owner run ./report" >&2
     return 1
