@@ -40,23 +40,43 @@ alone() { # COMMAND..
     ) 9>>"$root/target/lock"
 }
 
-# Runs rt, with all that it says in a file and each crate that is done on standard error. Ends as rt did.
-told() { # LOG MANY rt WORDS..
-    log=$root/target/$1 many=$2 k=0 ended=1
-    shift 2
+# Says which crates rt is at: it notes each in target/log as it begins it, and what came of it at the end.
+watch() { # CRATES..
+    begun=' '
+    while sleep 1 >/dev/null 2>&1 && kill -0 $$ 2>/dev/null; do
+        for c; do
+            case $begun in *" $c "*) continue ;; esac
+            if [ ! -s "$root/target/log/$c.out" ] && grep -qs failed "$root/target/log/$c.res"; then
+                begun="$begun$c "
+                echo "$me: proving $c" >&2
+            fi
+        done
+    done
+}
+
+# Runs rt on a crate, with all that it says in a file, and on standard error what it is at and each crate that is done. Ends as rt did.
+told() { # LOG COMMAND NAME
+    log=$root/target/$1 command=$2 name=$3 k=0 ended=1
+    # shellcheck disable=SC2046
+    set -- $(made_of "$3")
+    for c; do rm -f "$root/target/log/$c.res" "$root/target/log/$c.out"; done
+    watch "$@" >/dev/null 9>&- &
+    watcher=$!
     {
-        (cd "$root" && "$@") </dev/null 2>&1 && echo "ended 0" || echo "ended $?"
+        (cd "$root" && rt "$command" "$name") </dev/null 2>&1 && echo "ended 0" || echo "ended $?"
     } | tee "$log" | {
         while IFS= read -r line; do
             case $line in
-            'rt: '*' proved ('* | 'rt: '*' NOT PROVED'*) k=$((k + 1)) && echo "$me: $k of $many: ${line#rt: }" >&2 ;;
-            'rt: target/staticlib/'*) k=$((k + 1)) && echo "$me: $k of $many: capi proved, the archive is written" >&2 ;;
+            'rt: '*' proved ('* | 'rt: '*' NOT PROVED'*) k=$((k + 1)) && echo "$me: $k of $#: ${line#rt: }" >&2 ;;
+            'rt: target/staticlib/'*) k=$((k + 1)) && echo "$me: $k of $#: $name proved, the archive is written" >&2 ;;
             'rt: '*FAILED*) echo "$me: ${line#rt: }" >&2 ;;
             'ended '*) ended=${line#ended } ;;
             esac
         done
         exit "$ended"
-    }
+    } && ended=0 || ended=$?
+    kill "$watcher" 2>/dev/null || :
+    return "$ended"
 }
 
 # Proves and builds a program of this clone unless it is proved as it stands.
@@ -66,7 +86,7 @@ prove_here() { # NAME
     ! is_proved "$1" || return 0
     from=$(sources) many=$(made_of "$1" | wc -l)
     echo "$me: checking $1 and what it is made of, $many crates; one that is new or changed is proved, in up to a minute each" >&2
-    told "$1.log" "$many" rt check "$1" || {
+    told "$1.log" check "$1" || {
         echo "$me: it is not proved; $root/target/$1.log has why" >&2
         return 1
     }
@@ -88,7 +108,7 @@ prove_archive() { alone archive_here; }
 archive_here() {
     many=$(made_of capi | wc -l)
     echo "$me: checking the library for C and what it is made of, $many crates; the last is proved each time, in half a minute" >&2
-    told staticlib.log "$many" rt staticlib capi || {
+    told staticlib.log staticlib capi || {
         echo "$me: it is not proved; $root/target/staticlib.log has why" >&2
         return 1
     }
