@@ -1,4 +1,5 @@
-# Proving before a run: one at a time in a clone, with what is being done on standard error. To be read by the other scripts, with $root (this clone) set.
+# Proving before a run: one at a time in a clone, with what is being done on standard error. To be read by the other
+# scripts, with $root (this clone) set.
 . "$root/tools/kit.sh"
 me=${0##*/}
 
@@ -18,11 +19,13 @@ made_of() { # NAME
 }
 
 # One number for what a proof hangs on: the kit, the machine, the crates' files.
+files() { find crates.txt crates -type f -exec sha256sum {} + | LC_ALL=C sort; }
 sources() {
-    (cd "$root" && { rt version && uname -m && find crates.txt crates -type f -exec sha256sum {} + | LC_ALL=C sort; } | sha256sum)
+    (cd "$root" && { rt version && uname -m && files; } | sha256sum)
 }
 
-# Is target/bin/NAME the program that was proved of the crates as they stand? Writes nothing. target/NAME.proved says so: the kit, its sources, the program.
+# Is target/bin/NAME the program that was proved of the crates as they stand? Writes nothing. target/NAME.proved says
+# so: the kit, its sources, the program.
 is_proved() { # NAME
     [ -r "$root/target/$1.proved" ] && [ -r "$root/target/bin/$1" ] &&
         [ "$(sed 1d "$root/target/$1.proved")" = "$(sources && sha256sum <"$root/target/bin/$1")" ]
@@ -54,7 +57,8 @@ watch() { # CRATES..
     done
 }
 
-# Runs rt on a crate, with all that it says in a file, and on standard error what it is at and each crate that is done. Ends as rt did.
+# Runs rt on a crate, with all that it says in a file, and on standard error what it is at and each crate that is
+# done. Ends as rt did.
 told() { # LOG COMMAND NAME
     log=$root/target/$1 command=$2 name=$3 k=0 ended=1
     # shellcheck disable=SC2046
@@ -85,7 +89,7 @@ prove() { alone prove_here "$1"; } # NAME
 prove_here() { # NAME
     ! is_proved "$1" || return 0
     from=$(sources) many=$(made_of "$1" | wc -l)
-    echo "$me: checking $1 and what it is made of, $many crates; one that is new or changed is proved, in up to a minute each" >&2
+    echo "$me: checking $1 and what it is made of, $many crates; what is new or changed is proved, a minute each" >&2
     told "$1.log" check "$1" || {
         echo "$me: it is not proved; $root/target/$1.log has why" >&2
         return 1
@@ -94,9 +98,11 @@ prove_here() { # NAME
     { rt version && echo "$from" && sha256sum <"$root/target/bin/$1"; } >"$root/target/$1.proved"
 }
 
-# The same in a clone that cannot be written: rt reads copies of its stamps in a folder of ours and finds nothing to prove, or the clone is not built.
+# The same in a clone that cannot be written: rt reads copies of its stamps in a folder of ours and finds nothing to
+# prove, or the clone is not built.
 prove_aside() { # NAME ROOM
-    mkdir -p "$2/target/stamp" && cp "$root"/target/stamp/* "$2/target/stamp/" 2>/dev/null && ln -s "$root/crates" "$root/crates.txt" "$2/" &&
+    mkdir -p "$2/target/stamp" && ln -s "$root/crates" "$root/crates.txt" "$2/" &&
+        cp "$root"/target/stamp/* "$2/target/stamp/" 2>/dev/null &&
         (cd "$2" && timeout 60 rt check "$1") </dev/null >"$2/log" 2>&1 && [ -r "$root/target/bin/$1" ] && return
     echo "$me: $root is not built as it stands, and you cannot write there: let its owner run ./report" >&2
     return 1
@@ -107,7 +113,7 @@ prove_archive() { alone archive_here; }
 
 archive_here() {
     many=$(made_of capi | wc -l)
-    echo "$me: checking the library for C and what it is made of, $many crates; the last is proved each time, in half a minute" >&2
+    echo "$me: checking the library for C, $many crates; the last of them is proved each time, in half a minute" >&2
     told staticlib.log staticlib capi || {
         echo "$me: it is not proved; $root/target/staticlib.log has why" >&2
         return 1

@@ -1,4 +1,4 @@
-"""Branch tables as Python sees them: header and rows as numbers, nothing tested but what reading needs. For tools/table and tools/draw."""
+"""Branch tables as numbers, with nothing tested but what reading them needs. For tools/table and tools/draw."""
 import struct
 import sys
 
@@ -37,9 +37,10 @@ def unpack(table):
     if len(table) < HEADER.size:
         raise Bad(REFUSALS[1])
     mark, version, nodes, reserved, bound = HEADER.unpack_from(table)
-    tests = (2, mark == b"RTN"), (3, version == 1), (4, 1 <= nodes <= MOST_NODES), (5, reserved == 0), (6, len(table) == 12 * nodes)
-    for number, good in tests:
-        if not good:
+    good = {2: mark == b"RTN", 3: version == 1, 4: 1 <= nodes <= MOST_NODES, 5: reserved == 0}
+    good[6] = len(table) == 12 * nodes
+    for number in good:
+        if not good[number]:
             raise Bad(REFUSALS[number])
     return bound, list(ROW.iter_unpack(table[HEADER.size:]))
 

@@ -1,4 +1,4 @@
-// Links native/libhourbench.a of this package, wherever the package and the target folder stand, and again when the archive changed.
+// Links native/libhourbench.a of this package, wherever it stands, and again when the archive changed.
 use std::{env, path::Path};
 
 fn main() {
