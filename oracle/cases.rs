@@ -123,6 +123,28 @@ fn fields<T>(r: Answer<T>, zeros: &str, show: impl Fn(T) -> String) -> String {
 
 type Answer<T> = std::result::Result<T, net::Refused>;
 
+/// The report of a case's table, all branches free: its lines as document 01 has them.
+pub fn report(out: &mut impl Write, c: &Case) -> Result<()> {
+    let t = &c.table[..];
+    let free = |n: usize| vec![0; n - 1];
+    let found = net::accept(t).and_then(|net| Ok((net::heaviest(t, &free(net.n))?, net)));
+    let ((a, b, length, weight), net) = match found {
+        Ok(x) => x,
+        Err((number, row)) => return writeln!(out, "refused {number} row {row}"),
+    };
+    writeln!(out, "net {} bound {}", net.n, net.bound)?;
+    writeln!(out, "best {a} {b} length {length} weight {weight}")?;
+    let mut total = 0;
+    for a in 0..net.n {
+        let f = net.from(a, &free(net.n));
+        for b in (a + 1..net.n).filter(|b| f.length[*b] <= net.bound && f.weight[*b] == weight) {
+            writeln!(out, "pair {a} {b} {} {}", f.length[b], f.weight[b])?;
+            total += 1;
+        }
+    }
+    writeln!(out, "total {total}")
+}
+
 /// The ten lines of a case.
 pub fn answer(out: &mut impl Write, c: &Case) -> Result<()> {
     let t = &c.table[..];

@@ -11,8 +11,10 @@ fn number(arg: Option<String>) -> u64 {
 }
 
 fn usage() -> ! {
-    eprintln!("usage: oracle make SEED COUNT LIMIT [worked] > CASES    COUNT cases of at most LIMIT nodes (1 to 4096), the worked ones first");
-    eprintln!("       oracle answer < CASES                            ten lines for each case");
+    eprintln!("usage: oracle make SEED COUNT LIMIT [worked | reports] > CASES    COUNT cases of at most LIMIT nodes (1 to 4096),");
+    eprintln!("                                                                  the worked net's or the reports' first");
+    eprintln!("       oracle answer < CASES                                      ten lines for each case");
+    eprintln!("       oracle report < CASES                                      the report of each case's table");
     std::process::exit(2)
 }
 
@@ -25,12 +27,22 @@ fn main() -> Result<()> {
             if !(1..=4096).contains(&limit) {
                 usage();
             }
-            let with_worked = args.next().as_deref() == Some("worked");
-            cases::write(&mut out, &make::cases(seed, count as usize, limit as usize, with_worked))?;
+            let first = match args.next().as_deref() {
+                None => Vec::new(),
+                Some("worked") => make::worked(),
+                Some("reports") => make::reports(),
+                Some(_) => usage(),
+            };
+            cases::write(&mut out, &make::cases(seed, count as usize, limit as usize, first))?;
         }
         Some("answer") => {
             for c in cases::read(&mut BufReader::new(stdin().lock()))? {
                 cases::answer(&mut out, &c)?;
+            }
+        }
+        Some("report") => {
+            for c in cases::read(&mut BufReader::new(stdin().lock()))? {
+                cases::report(&mut out, &c)?;
             }
         }
         _ => usage(),

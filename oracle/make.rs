@@ -28,7 +28,7 @@ fn plain(table: Vec<u8>, marks: &[u16]) -> Case {
 const N5: [Branch; 4] = [(0, 1, 4, 5), (1, 2, 3, 2), (1, 3, 6, 7), (3, 4, 2, -3)];
 
 /// Document 01's small net N5, each of its cases.
-fn worked() -> Vec<Case> {
+pub fn worked() -> Vec<Case> {
     let n5 = |bound| plain(table(5, bound, &N5), &[0; 4]);
     let mut all: Vec<Case> = [9, 8, 10, 2, 1].iter().map(|b| n5(*b)).collect();
     all.push(Case { floor: Floor::Number(10), ..n5(9) });
@@ -50,6 +50,38 @@ fn worked() -> Vec<Case> {
         all.push(plain(table(5, 8, &long), &[0; 4]));
     }
     all
+}
+
+/// For the report: document 01's own, a refusal of each sort, a ring, all weights negative, one node, the largest numbers, and
+/// ties over several pages (`room` is a page's bytes) and over more lines than a buffer of text has.
+pub fn reports() -> Vec<Case> {
+    let of = |table: Vec<u8>, room| Case { table, marks: vec![], room, ..plain(table_of_five(8), &[]) };
+    let star = |n: u16, bound, weight| table(n, bound, &(1..n).map(|x| (0, x, 0, weight)).collect::<Vec<_>>());
+    let mut all: Vec<Case> = [8, 9, 10, 2, 1].iter().map(|b| of(table_of_five(*b), 160)).collect();
+    let mut ring = N5;
+    ring[1] = (0, 1, 3, 2);
+    all.push(of(table(5, 8, &ring), 16));
+    all.push(of(table(1, 9, &[]), 16));
+    all.push(of(vec![], 16));
+    all.push(of(table_of_five(8)[..48].to_vec(), 16));
+    all.push(of(table(4097, 8, &N5), 16));
+    all.push(of(table(3, 8, &[(0, 1, 3, 2), (1, 3, 3, 2)]), 16));
+    all.push(of(table(3, 8, &[(0, 1, 3, 2), (1, 2, 1_000_001, 2)]), 16));
+    all.push(of(table(4, 9, &[(0, 1, 4, -5), (1, 2, 5, -5), (1, 3, 4, -6)]), 16));
+    all.push(of(table(3, u32::MAX, &[(2, 1, 1_000_000, -1_000_000), (1, 0, 1_000_000, -1_000_000)]), 16));
+    let far: Vec<Branch> = (1..60).map(|x| (x - 1, x, 1_000_000, 1_000_000)).collect();
+    all.push(of(table(60, u32::MAX, &far), 16));
+    for room in [0, 16, 33, 95, 96, 160] {
+        all.push(of(star(4, 0, 0), room));
+    }
+    all.push(of(star(5, 0, -7), 32));
+    all.push(of(star(40, 0, 0), 9_600));
+    all.push(of(star(40, 0, 0), 11_216));
+    all
+}
+
+fn table_of_five(bound: u32) -> Vec<u8> {
+    table(5, bound, &N5)
 }
 
 /// The parent of each node but 0, by shape.
@@ -243,10 +275,10 @@ fn damage_again(r: &mut Random, t: &mut Vec<u8>) {
     }
 }
 
-/// `count` random cases of at most `limit` nodes; the first are the worked ones instead, where these are wanted.
-pub fn cases(seed: u64, count: usize, limit: usize, with_worked: bool) -> Vec<Case> {
+/// `count` cases: those that are to stand first, then random ones of at most `limit` nodes.
+pub fn cases(seed: u64, count: usize, limit: usize, first: Vec<Case>) -> Vec<Case> {
     let mut r = Random(seed);
-    let mut all = if with_worked { worked() } else { Vec::new() };
+    let mut all = first;
     all.truncate(count);
     while all.len() < count {
         all.push(random(&mut r, limit));

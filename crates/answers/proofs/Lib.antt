@@ -1,4 +1,5 @@
 -- Laws and theorems of the operations, by topic. Demand 3 of the listing stands in Demand3.
+pub mod Bounds
 pub mod Demand3
 pub mod ListingOnly
 pub mod HeaviestOnly

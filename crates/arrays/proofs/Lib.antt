@@ -1,2 +1,3 @@
--- Laws of filled lists, for this crate and those above.
+-- Laws of filled lists and of stores, for this crate and those above.
 pub mod Fills
+pub mod Stores

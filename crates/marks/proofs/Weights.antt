@@ -5,11 +5,12 @@ use mathlib.Core.List.{List}
 use Prim.Native.Nat.{ℕ, zero, suc, _-_, _≤_, _<_}
 use native.Mathlib.Decide.{ℕ-discrete}
 use native.Mathlib.Omega.{arith}
-use lib.IntN.{ℤ, pos}
+use lib.IntN.{ℤ, pos, natAbs}
 use Rattle.arrays.specs.Filled.{at}
 use Rattle.table.specs.Refuse.{Only}
 use Rattle.table.specs.Signed.{Diff, up}
 use Rattle.table.proofs.Only.{lifted-only}
+use Rattle.table.proofs.Near.{within-near}
 use Rattle.tree.specs.Net.{Net, weightOf}
 use Rattle.marks.specs.Mark.{Free}
 use Rattle.marks.specs.Weighs.{weighs, weightUnder, LiftedUnder}
@@ -40,6 +41,15 @@ module _ {s marks : List ℕ} {n r q : ℕ} (N : Net s n) (h : r < n - 1) (l : L
       pick : Dec (Free (at marks r)) → q ≤ 2000000
       pick (yes e) = l .own e .small
       pick (no m) = omega (arith, l .none m)
+
+-- marked or not, no branch weighs farther than 1,000,000 from 0
+pub under-near : {s : List ℕ} {n r : ℕ} (marks : List ℕ) → Net s n → r < n - 1 → natAbs (weightUnder s marks r) ≤ 1000000
+unfolding weightUnder
+under-near {s} {n} {r} marks N h = pick (ℕ-discrete (at marks r) 0)
+  where
+    pick : Dec (Free (at marks r)) → natAbs (weighs (at marks r) (weightOf s r)) ≤ 1000000
+    pick (yes e) = rw (weighs-free (at marks r) (weightOf s r) e) (within-near (weightOf s r) (N .within r h))
+    pick (no m) = rw (weighs-marked (at marks r) (weightOf s r) m) (omega arith)
 
 pub under-only : (s marks : List ℕ) (r : ℕ) → Only (LiftedUnder s marks r)
 under-only s marks r x y p q = pick (ℕ-discrete (at marks r) 0)

@@ -1,9 +1,9 @@
 -- Calls over a caller's bytes are pages one after the other: the two nodes read out of the last row written are that row's.
 use Prim.Native.Nat.{ℕ, _+_, _-_, _*_, _/_, _≤_, _<_}
 use mathlib.Core.Path.{_≡_, refl, ap}
-use mathlib.Core.List.{List, [], _∷_, _++_}
+use mathlib.Core.List.{List, [], _∷_, _++_, append-assoc}
 use native.Mathlib.Omega.{arith}
-use lib.ListN.{length, getD, take, drop, length-append, take-append-drop}
+use lib.ListN.{length, take, drop, length-append, take-append-drop}
 use lib.Seq.{take-append-seam}
 use Rattle.table.specs.Bytes.{u16At}
 use Rattle.pages.specs.Listing.{Entry, In, at}
@@ -12,7 +12,8 @@ use Rattle.pages.specs.Bytes.{row, rows}
 use Rattle.pages.specs.Calls.{Paged, Calls, done, again}
 use Rattle.pages.proofs.Members.{in-left, in-right}
 use Rattle.pages.proofs.Pages.{page-full, next-fewer, snoc}
-use Rattle.pages.proofs.Rows.{rows-length, row-nodes, last-row}
+use Rattle.pages.proofs.Rows.{rows-length, rows-end}
+use Rattle.pages.proofs.Back.{low-back, high-back}
 
 module _ {P : Entry → Type 0} (small : (e : Entry) → P e → (e .low < 65536) × (e .high < 65536)) where
   -- where some are left, the last row given, and its two nodes read out of the bytes
@@ -28,16 +29,25 @@ module _ {P : Entry → Type 0} (small : (e : Entry) → P e → (e .low < 65536
           let k : In e (c .page .rows) = rw (c .page .fit, take-append-drop (length old / 16) (c .page .rows)) at (in-left (drop (length old / 16) (c .page .rows)) m) in
           c .page .all .sound e k .0
 
-      byte : (front : List Entry) (e : Entry) → c .some ≡ front ++ e ∷ [] → (i j : ℕ) → i ≡ 16 * (given - 1) + j → j < 16 → getD now i 0 ≡ getD (row e) j 0
-      byte front e q i j x b = rw (c .bytes, q, x) (last-row front e (drop (16 * given) old) (given - 1) j (omega (arith, c .count, ap length q, length-append front (e ∷ []))) b)
+      stands : (front : List Entry) (e : Entry) → c .some ≡ front ++ e ∷ []
+          → now ≡ rows front ++ (row e ++ drop (16 * given) old)
+      stands front e q = rw (c .bytes, q, rows-end front e) (append-assoc (rows front) (row e) (drop (16 * given) old))
+
+      place : (front : List Entry) (e : Entry) → c .some ≡ front ++ e ∷ [] → length (rows front) ≡ 16 * (given - 1)
+      place front e q = omega (arith, rows-length front, c .count, ap length q, length-append front (e ∷ []))
 
       first-is : (front : List Entry) (e : Entry) → c .some ≡ front ++ e ∷ [] → u16At now (16 * (given - 1)) ≡ e .low
       first-is front e q =
-          rw (byte front e q (16 * (given - 1)) 0 (omega arith) (omega arith), byte front e q (16 * (given - 1) + 1) 1 refl (omega arith), row-nodes e .0, row-nodes e .1) (omega (arith, small e (last-in front e q) .0))
+          rw (stands front e q)
+          (low-back (rows front) e (drop (16 * given) old) (16 * (given - 1)) (place front e q)
+          (small e (last-in front e q) .0))
 
-      second-is : (front : List Entry) (e : Entry) → c .some ≡ front ++ e ∷ [] → u16At now (16 * (given - 1) + 2) ≡ e .high
+      second-is : (front : List Entry) (e : Entry) → c .some ≡ front ++ e ∷ []
+          → u16At now (16 * (given - 1) + 2) ≡ e .high
       second-is front e q =
-          rw (byte front e q (16 * (given - 1) + 2) 2 refl (omega arith), byte front e q (16 * (given - 1) + 2 + 1) 3 (omega arith) (omega arith), row-nodes e .2, row-nodes e .3) (omega (arith, small e (last-in front e q) .1))
+          rw (stands front e q)
+          (high-back (rows front) e (drop (16 * given) old) (16 * (given - 1)) (place front e q)
+          (small e (last-in front e q) .1))
 
   pub calls-pages : {s t : ℕ} {joined : List Entry} → Calls P s t joined → PagesFrom P s t joined
   calls-pages (done {old} h c) = ends {room = length old / 16} (omega arith) (c .page)

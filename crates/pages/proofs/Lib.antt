@@ -6,6 +6,7 @@ pub mod Rising
 pub mod Listings
 pub mod Pages
 pub mod Rows
+pub mod Back
 pub mod Calls
 pub mod Lift
 pub mod Filling

@@ -1,13 +1,14 @@
--- Rows as bytes: how long they are, how one more is stored, and what the last one says.
+-- Rows as bytes: how long they are, and how one more is stored.
 use Prim.Native.Nat.{ℕ, zero, suc, _+_, _-_, _*_, _/_, _%_, _≤_, _<_}
 use mathlib.Core.Path.{_≡_, refl, sym, ap, _∙_}
 use mathlib.Core.List.{List, [], _∷_, _++_, append-assoc, append-nil}
 use native.Mathlib.Omega.{arith}
 use native.Mathlib.Numerals.{add-one}
-use lib.ListN.{length, drop, set, getD, length-append, List·getD-append}
-use lib.Seq.{sets, sets-eq, take-append-seam, drop-append-add, getD-append-add}
+use lib.ListN.{length, drop, set, length-append}
+use lib.Seq.{sets, sets-eq, take-append-seam, drop-append-add}
 use mir.Syntax.{w64}
 use mir.Val.{ofZ}
+use Rattle.arrays.proofs.Stores.{sets-append}
 use Rattle.pages.specs.Listing.{Entry}
 use Rattle.pages.specs.Bytes.{bytes, row, rows}
 
@@ -45,11 +46,6 @@ unfolding bytes
 bytes-none out p zero y h = refl
 bytes-none out p (suc j) y h = absurd (omega arith)
 
--- a store of two parts is one store after the other
-sets-append : (l : List ℕ) (i j : ℕ) (a b : List ℕ) → j ≡ i + length a → sets l i (a ++ b) ≡ sets (sets l i a) j b
-sets-append l i j [] b h = let e : i ≡ j = omega arith in rw e
-sets-append l i j (x ∷ a) b h = sets-append (set l i x) (suc i) j a b (omega arith)
-
 pub row-sets : (l : List ℕ) (i : ℕ) (e : Entry) → sets (sets (sets (sets l i (bytes 2 (e .low))) (i + 2) (bytes 2 (e .high))) (i + 4) (bytes 4 (e .length))) (i + 8) (bytes 8 (ofZ w64 (e .weight))) ≡ sets l i (row e)
 unfolding row
 row-sets l i e =
@@ -66,14 +62,3 @@ sets-seam a b r h = sets-eq r (a ++ b) (length a) (omega (arith, length-append a
 
 pub sets-after : (a b r : List ℕ) (n : ℕ) → n ≡ length a → length r ≤ length b → sets (a ++ b) n r ≡ a ++ r ++ drop (length r) b
 sets-after a b r n e h = rw e (sets-seam a b r h)
-
--- the two nodes of a row
-pub row-nodes : (e : Entry) → (getD (row e) 0 0 ≡ e .low % 256) × (getD (row e) 1 0 ≡ e .low / 256 % 256) × (getD (row e) 2 0 ≡ e .high % 256) × (getD (row e) 3 0 ≡ e .high / 256 % 256)
-unfolding row bytes
-row-nodes e = (refl, refl, refl, refl)
-
--- what stands at a place of the last row
-pub last-row : (front : List Entry) (e : Entry) (rest : List ℕ) (g j : ℕ) → g ≡ length front → j < 16 → getD (rows (front ++ e ∷ []) ++ rest) (16 * g + j) 0 ≡ getD (row e) j 0
-last-row front e rest g j q h =
-    let k : 16 * g ≡ length (rows front) = omega (arith, rows-length front) in
-    rw (rows-end front e, append-assoc (rows front) (row e) rest, k, getD-append-add (rows front) (row e ++ rest) j 0) (List·getD-append (row e) rest 0 j (omega (arith, row-length e)))

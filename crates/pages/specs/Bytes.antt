@@ -1,9 +1,10 @@
--- A row of a page as bytes.
-use Prim.Native.Nat.{ℕ, zero, suc, _/_, _%_}
+-- A row of a page as bytes, and what bytes say as rows.
+use Prim.Native.Nat.{ℕ, zero, suc, _+_, _*_, _/_, _%_, _<_}
 use mathlib.Core.List.{List, [], _∷_, _++_}
 use mir.Syntax.{w64}
-use mir.Val.{ofZ}
-use Rattle.pages.specs.Listing.{Entry}
+use mir.Val.{SFits, ofZ, toZ}
+use Rattle.table.specs.Bytes.{u16At, u32At}
+use Rattle.pages.specs.Listing.{Entry, entry}
 
 -- the k lowest bytes of x, lowest first
 unfoldable pub bytes : ℕ → ℕ → List ℕ
@@ -17,3 +18,21 @@ row e = bytes 2 (e .low) ++ bytes 2 (e .high) ++ bytes 4 (e .length) ++ bytes 8 
 unfoldable pub rows : List Entry → List ℕ
 rows [] = []
 rows (e ∷ l) = row e ++ rows l
+
+-- the same read: what the 16 bytes from place i on say, and what k rows say, from row i on
+abbrev pub u64At : List ℕ → ℕ → ℕ
+u64At s i = u32At s i + 4294967296 * u32At s (i + 4)
+
+abbrev pub entryAt : List ℕ → ℕ → Entry
+entryAt s i = entry (u16At s i) (u16At s (i + 2)) (u32At s (i + 4)) (toZ w64 (u64At s (i + 8)))
+
+unfoldable pub entries : List ℕ → ℕ → ℕ → List Entry
+entries s i zero = []
+entries s i (suc k) = entryAt s (16 * i) ∷ entries s (i + 1) k
+
+-- an entry whose numbers fit their places in a row
+pub record RowFits (e : Entry) : Type 0 where
+  pub low : e .low < 65536
+  pub high : e .high < 65536
+  pub length : e .length < 4294967296
+  pub weight : SFits w64 (e .weight)

@@ -1,6 +1,7 @@
--- Laws of the table, by topic. Crates above cite Refusals, Accepted, Only, Lift and nothing else of this crate.
+-- Laws of the table, by topic. Crates above cite Refusals, Accepted, Only, Lift, Near and nothing else of this crate.
 pub mod Refusals
 pub mod Lift
+pub mod Near
 pub mod Bits
 pub mod Accepted
 pub mod Only

@@ -1,15 +1,17 @@
--- A simple path has fewer rows than the net has nodes; so in an accepted net no path is longer than 4,095,000,000.
+-- A simple path has fewer rows than the net has nodes; so in an accepted net no path is longer than 4,095,000,000, and
+-- where no row weighs farther than 1,000,000 from 0 no path weighs farther from 0 than that.
 use Prim.Native.Nat.{ℕ, suc, _-_, _*_, _≤_, _<_}
 use mathlib.Core.Path.{_≡_, refl, ap}
 use mathlib.Core.Logic.{inl, inr}
 use mathlib.Core.List.{List, _∷_}
 use native.Mathlib.Omega.{arith}
-use lib.IntN.{ℤ}
+use lib.IntN.{ℤ, natAbs}
 use lib.ListN.{length}
+use Rattle.table.proofs.Near.{sum-near}
 use Rattle.tree.specs.Members.{In, at, past, Distinct}
 use Rattle.tree.specs.Graph.{First, Ends, Walk, stop, go}
 use Rattle.tree.specs.Path.{Sum}
-use Rattle.tree.specs.Value.{Value}
+use Rattle.tree.specs.Value.{Value, Total}
 use Rattle.tree.specs.Net.{firstEnd, secondEnd, lengthOf, Net}
 use Rattle.tree.proofs.Members.{not-nil}
 use Rattle.tree.proofs.Counts.{count-below}
@@ -35,7 +37,26 @@ module _ {u v : ℕ → ℕ} {k n : ℕ} (fit : (r : ℕ) → r < k → (u r < n
   sum-most f m stop = omega arith
   sum-most f m (go {r} h e w) = omega (arith, m r h, sum-most f m w)
 
+  total-near : (f : ℕ → ℤ) → ((r : ℕ) → r < k → natAbs (f r) ≤ 1000000) → {x y : ℕ} {rs ns : List ℕ}
+      → Walk u v (First k) x rs ns y → natAbs (Total f rs) ≤ 1000000 * length rs
+  unfolding Total
+  total-near f m stop = omega arith
+  total-near f m (go {r} {rs = rs} h e w) = omega (arith, m r h, total-near f m w, sum-near (f r) (Total f rs))
+
 pub path-short : {s : List ℕ} {n a b l : ℕ} {heavy : ℕ → ℤ} {w : ℤ} → Net s n → a < n → Value (firstEnd s) (secondEnd s) (n - 1) (lengthOf s) heavy a b l w → l ≤ 4095000000
 path-short {s} {n} {a} {b} {l} t c p =
     let fit : (r : ℕ) → r < n - 1 → (firstEnd s r < n) × (secondEnd s r < n) = λ r h. (t .first r h, t .second r h) in
     omega (arith, p .length, path-rows fit c (p .path .1) (p .path .2), sum-most fit (lengthOf s) (t .short) (p .path .1), t .few)
+
+pub path-light : {s : List ℕ} {n a b l : ℕ} {heavy : ℕ → ℤ} {w : ℤ} → Net s n
+    → ((r : ℕ) → r < n - 1 → natAbs (heavy r) ≤ 1000000) → a < n
+    → Value (firstEnd s) (secondEnd s) (n - 1) (lengthOf s) heavy a b l w → natAbs w ≤ 4095000000
+path-light {s} {n} {a} {b} {l} {heavy} {w} t near c p =
+    let fit : (r : ℕ) → r < n - 1 → (firstEnd s r < n) × (secondEnd s r < n) = λ r h. (t .first r h, t .second r h) in
+    omega (
+      arith,
+      ap natAbs (p .weight),
+      path-rows fit c (p .path .1) (p .path .2),
+      total-near fit heavy near (p .path .1),
+      t .few,
+    )

@@ -1,0 +1,3 @@
+-- Laws of the report's lines, by topic.
+pub mod Reading
+pub mod Lining

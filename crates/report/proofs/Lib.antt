@@ -1,2 +1,0 @@
--- Laws of the report, by topic.
-pub mod Pages

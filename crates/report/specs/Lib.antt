@@ -1,2 +1,0 @@
--- What the contracts of this program cite.
-pub mod Asked

@@ -1,0 +1,252 @@
+-- From the outcomes of acceptance, heaviest and the first page to the whole report: it is there, it is one, and it is
+-- short.
+use Prim.Native.Nat.{ℕ, zero, suc, _+_, _-_, _*_, _≤_, _<_}
+use mathlib.Core.Path.{_≡_, refl, sym, ap, _∙_}
+use mathlib.Core.List.{List, [], _∷_, _++_}
+use native.Mathlib.Omega.{arith}
+use lib.Dec.{leb→le}
+use lib.IntN.{ℤ, pos, negsuc}
+use lib.ListN.{length, take, replicate, length-append, length-replicate}
+use lib.Signed.{_≤ℤ_, ≤ℤ-refl}
+use mir.Syntax.{w64}
+use mir.Val.{SFits, toZ, ofZ}
+use mir.ValLaws.{toZ-ofZ}
+use Rattle.table.specs.Header.{nodesOf, boundOf}
+use Rattle.table.specs.Outcome.{found as accepted, refusal as not-accepted}
+use Rattle.tree.specs.Accept.{Accepts}
+use Rattle.tree.proofs.Begins.{admitted}
+use Rattle.pages.specs.Listing.{Entry, entry, Listing, In, at, past}
+use Rattle.pages.specs.Passes.{Passes}
+use Rattle.pages.specs.Bytes.{RowFits}
+use Rattle.pages.proofs.Listings.{listing-iff}
+use Rattle.pages.proofs.Pages.{whole-follows}
+use Rattle.answers.specs.PathOf.{PathOf}
+use Rattle.answers.specs.Heaviest as heaviest
+use Rattle.answers.specs.Heaviest.{HeaviestOf, Heaviest}
+use Rattle.answers.proofs.Bounds.{passes-fits}
+use Rattle.answers.proofs.Demand2.{InReach, found-best}
+use Rattle.text.specs.Word.{word}
+use Rattle.text.specs.Put.{Put}
+use Rattle.text.proofs.Decimals.{decimal-few, signed-few}
+use Rattle.text.proofs.Puts.{put-front}
+use Rattle.lines.specs.Lines.{refusedText, netText, bestText, pairText, pairsText, totalText}
+use Rattle.reporting.specs.Report.{allFree, Weighing, refused, none, lines, Rest, Next}
+use Rattle.reporting.specs.Asked.{Ready, Counted, Asked, Begun}
+use Rattle.reporting.proofs.Sending.{rest-all, rest-as, rest-end, rest-done, rest-next, rest-after, next-as}
+
+-- a text at the front of the buffer is handed over
+pub put-next : {s o t new : List ℕ} {sent n : ℕ} → Next s sent t → Put o 0 t new n → Next s sent (take n new)
+put-next h p = next-as (sym (put-front p)) h
+
+pub put-last : {s o t new : List ℕ} {sent n : ℕ} → Rest s sent t → Put o 0 t new n → Next s sent (take n new)
+put-last {t = t} h p = put-next (rest-end t h) p
+
+pub put-end : {s o t new : List ℕ} {sent n next : ℕ} → Rest s sent t → Put o 0 t new n → next ≡ sent + n
+    → Rest s next []
+put-end {s} {t = t} {sent = sent} {n = n} h p e =
+    let f : n ≡ length t = omega (arith, p .after) in
+    rw (e, f) (rest-done t h)
+
+-- how long the lines are
+refused-few : (k r : ℕ) → k < 18446744073709551616 → r < 18446744073709551616 → length (refusedText k r) ≤ 128
+unfolding refusedText word
+refused-few k r h j = simp length-append (omega (arith, decimal-few k h, decimal-few r j))
+
+net-few : (n b : ℕ) → n < 18446744073709551616 → b < 18446744073709551616 → length (netText n b) ≤ 128
+unfolding netText word
+net-few k r h j = simp length-append (omega (arith, decimal-few k h, decimal-few r j))
+
+total-few : (k : ℕ) → k < 18446744073709551616 → length (totalText k) ≤ 128
+unfolding totalText word
+total-few k h = simp length-append (omega (arith, decimal-few k h))
+
+best-few : (e : Entry) → RowFits e → length (bestText e) ≤ 128
+unfolding bestText word
+best-few e s =
+    simp length-append
+    (omega (
+      arith,
+      decimal-few (e .low) (omega (arith, s .low)),
+      decimal-few (e .high) (omega (arith, s .high)),
+      decimal-few (e .length) (omega (arith, s .length)),
+      signed-few (e .weight) (s .weight),
+    ))
+
+pair-few : (e : Entry) → RowFits e → length (pairText e) ≤ 96
+unfolding pairText word
+pair-few e s =
+    simp length-append
+    (omega (
+      arith,
+      decimal-few (e .low) (omega (arith, s .low)),
+      decimal-few (e .high) (omega (arith, s .high)),
+      decimal-few (e .length) (omega (arith, s .length)),
+      signed-few (e .weight) (s .weight),
+    ))
+
+pairs-few : (l : List Entry) → ((e : Entry) → In e l → RowFits e) → length (pairsText l) ≤ 96 * length l
+unfolding pairsText
+pairs-few [] s = omega arith
+pairs-few (e ∷ l) s =
+    omega (
+      arith,
+      length-append (pairText e) (pairsText l),
+      pair-few e (s e (at refl)),
+      pairs-few l (λ x m. s x (past m)),
+    )
+
+-- one line: a refusal
+pub refused-rest : (s : List ℕ) (k r : ℕ) → k < 18446744073709551616 → r < 18446744073709551616
+    → Accepts s (not-accepted k r) → Rest s 0 (refusedText k r)
+refused-rest s k r h j p = rest-all (refused p) (omega (arith, refused-few k r h j))
+
+pub none-rest : (s marks : List ℕ) (n b k r : ℕ) → k < 18446744073709551616 → r < 18446744073709551616
+    → Accepts s (accepted n b) → marks ≡ allFree n → HeaviestOf s marks (heaviest.refusal k r)
+    → Rest s 0 (refusedText k r)
+none-rest s marks n b k r h j a e p = rest-all (none {n = n} {b = b} a (rw e at p)) (omega (arith, refused-few k r h j))
+
+-- of equal weight: neither more nor less
+level : (y z : ℤ) → y ≤ℤ z → z ≤ℤ y → y ≡ z
+level (pos m) (pos n) h k = ap pos (omega (arith, leb→le m n (h .le), leb→le n m (k .le)))
+level (pos m) (negsuc n) h k = absurd (h .le)
+level (negsuc m) (pos n) h k = absurd (k .le)
+level (negsuc m) (negsuc n) h k = ap negsuc (omega (arith, leb→le n m (h .le), leb→le m n (k .le)))
+
+-- the pairs at or above the heaviest weight are those of that weight
+module _ (s marks : List ℕ) (e : Entry) (best : Heaviest (InReach s marks) e) where
+  Same : Entry → Type 0
+  Same = Passes (PathOf s marks (nodesOf s)) (λ l. l ≤ boundOf s) (λ w. w ≡ e .weight) (nodesOf s)
+
+  only-level : (f : Entry) → Counted s marks (e .weight) f → Same f
+  unfolding Same
+  only-level f p =
+      record {
+        pair = p .pair;
+        node = p .node;
+        path = p .path;
+        short = p .short;
+        heavy = level (f .weight) (e .weight)
+            (best .best f
+            (record { pair = p .pair; node = p .node; path = p .path; short = p .short; heavy = tt }) .weight)
+            (p .heavy);
+      }
+
+  level-too : (f : Entry) → Same f → Counted s marks (e .weight) f
+  unfolding Same
+  level-too f p =
+      record {
+        pair = p .pair;
+        node = p .node;
+        path = p .path;
+        short = p .short;
+        heavy = rw (p .heavy) (≤ℤ-refl (e .weight));
+      }
+
+  pub same-weight : {l : List Entry} → Listing (Counted s marks (e .weight)) l
+      → Listing (Passes (PathOf s marks (nodesOf s)) (λ l. l ≤ boundOf s) (λ w. w ≡ e .weight) (nodesOf s)) l
+  unfolding Same
+  same-weight w = listing-iff only-level level-too w
+
+as-weighing : (s marks : List ℕ) (n b n₂ b₂ : ℕ) (e : Entry) {l : List Entry} → n ≡ n₂ → b ≡ b₂ → marks ≡ allFree n
+    → Listing (Passes (PathOf s marks n₂) (λ l. l ≤ b₂) (λ w. w ≡ e .weight) n₂) l → Listing (Weighing s n b e) l
+as-weighing s marks n b n₂ b₂ e h k f w = let g : marks ≡ allFree n₂ = rw h at f in rw (h, k) (rw g at w)
+
+pub entry-of : (e g : Entry) → heaviest.found e ≡ heaviest.found g → g ≡ e
+entry-of e g h = sym (λ i. record { low = h i .low; high = h i .high; length = h i .length; weight = h i .weight })
+
+pub best-run : (s marks : List ℕ) (e : Entry) → HeaviestOf s marks (heaviest.found e) → Heaviest (InReach s marks) e
+best-run s marks e p = let g = found-best s marks (heaviest.found e) refl p in rw (entry-of e (g .0) (g .2)) at (g .1)
+
+-- the lines of a net that has a heaviest run, once the first page is asked for
+module _ (s marks : List ℕ) (n b : ℕ) (e : Entry) {rows : List ℕ} {written left : ℕ} (a : Accepts s (accepted n b))
+    (f : marks ≡ allFree n) (p : HeaviestOf s marks (heaviest.found e))
+    (q : Asked s marks (e .weight) 0 0 rows written left) where
+  listed : Listing (Weighing s n b e) (q .page .page .rows)
+  listed =
+      let t = admitted s n b a in
+      as-weighing s marks n b (nodesOf s) (boundOf s) e (t .nodes) (t .bound) f
+      (same-weight s marks e (best-run s marks e p) (whole-follows (λ x g. g .pair) (q .page .page .all)))
+
+  number : length (q .page .page .rows) ≡ written + left
+  number = omega (arith, q .page .count, q .page .page .rest)
+
+  short : b < 18446744073709551616
+      → length
+      ((netText n b ++ bestText e) ++ (pairsText (q .page .page .rows) ++ totalText (length (q .page .page .rows))))
+      < 9223372036854775808
+  short h =
+      let t = admitted s n b a in
+      omega (
+        arith,
+        length-append (netText n b ++ bestText e)
+            (pairsText (q .page .page .rows) ++ totalText (length (q .page .page .rows))),
+        length-append (netText n b) (bestText e),
+        length-append (pairsText (q .page .page .rows)) (totalText (length (q .page .page .rows))),
+        net-few n b (omega (arith, t .net .few)) h,
+        best-few e (passes-fits s marks (q .net) (best-run s marks e p .one)),
+        pairs-few (q .page .page .rows) (λ x m. passes-fits s marks (q .net) (q .page .page .all .sound x m .0)),
+        total-few (length (q .page .page .rows)) (omega (arith, number, q .few)),
+        number,
+        q .few,
+      )
+
+  pub whole-rest : b < 18446744073709551616
+      → Rest s 0 ((netText n b ++ bestText e) ++ (pairsText (q .page .page .rows) ++ totalText (written + left)))
+  whole-rest h =
+      rest-as (ap (λ (k : ℕ). (netText n b ++ bestText e) ++ (pairsText (q .page .page .rows) ++ totalText k)) number)
+      (rest-all (lines {n = n} {b = b} a (rw f at p) listed) (short h))
+
+  pub whole-next : b < 18446744073709551616 → Next s 0 (netText n b ++ bestText e)
+  whole-next h =
+      rest-next (netText n b ++ bestText e) (pairsText (q .page .page .rows) ++ totalText (written + left))
+      (whole-rest h)
+
+  pub whole-begun : b < 18446744073709551616 → {sent : ℕ} → sent ≡ length (netText n b ++ bestText e)
+      → Begun s marks (e .weight) (written + left) rows written left sent
+  whole-begun h {sent} m =
+      let z : 0 + length (netText n b ++ bestText e) ≡ sent = omega (arith, m) in
+      record {
+        low = 0;
+        high = 0;
+        asked = q;
+        rest = rw z
+            at (rest-after (netText n b ++ bestText e) (pairsText (q .page .page .rows) ++ totalText (written + left))
+            (whole-rest h));
+      }
+
+-- as many free branches as the net has
+pub free-part : (n m : ℕ) → n ≤ m → take {A = ℕ} n (replicate m 0) ≡ replicate n 0
+free-part zero m h = refl
+free-part (suc n) zero h = absurd (omega arith)
+free-part (suc n) (suc m) h = ap (λ (l : List ℕ). 0 ∷ l) (free-part n m (omega arith))
+
+pub marks-free : {branches : List ℕ} {n m : ℕ} → branches ≡ replicate 4095 0 → n ≤ 4096 → m ≡ n - 1
+    → take m branches ≡ allFree n
+marks-free {n = n} e h k = rw (e, k) (free-part (n - 1) 4095 (omega arith))
+
+pub ready-free : {s marks rows : List ℕ} {n b : ℕ} → Accepts s (accepted n b) → marks ≡ allFree n → 16 ≤ length rows
+    → Ready s marks rows
+ready-free {s} {n = n} {b = b} a e h =
+    let t = admitted s n b a in
+    record {
+      accepted = rw (t .nodes, t .bound) at a;
+      marked = ap length e ∙ length-replicate (n - 1) 0 ∙ ap (λ (k : ℕ). k - 1) (t .nodes);
+      room = h;
+    }
+
+-- the same with the weight by its bits, as the code carries it
+module _ {s marks : List ℕ} (n b low high len bits : ℕ) (w : ℤ) {rows : List ℕ} {written left : ℕ}
+    (a : Accepts s (accepted n b)) (f : marks ≡ allFree n)
+    (p : HeaviestOf s marks (heaviest.found (entry low high len w))) (q : Asked s marks w 0 0 rows written left)
+    (small : b < 18446744073709551616) (e : toZ w64 bits ≡ w) where
+  pub lined-next : Next s 0 (netText n b ++ bestText (entry low high len (toZ w64 bits)))
+  lined-next = rw e (whole-next s marks n b (entry low high len w) a f p q small)
+
+  pub lined-begun : {o new : List ℕ} {m sent : ℕ}
+      → Put o 0 (netText n b ++ bestText (entry low high len (toZ w64 bits))) new m → sent ≡ 0 + m
+      → Begun s marks w (written + left) rows written left sent
+  lined-begun put m =
+      whole-begun s marks n b (entry low high len w) a f p q small (omega (arith, m, rw e at (put .after)))
+
+pub bits-say : {b : ℕ} (z : ℤ) → b ≡ ofZ w64 (toZ w64 (ofZ w64 z)) → SFits w64 z → toZ w64 b ≡ z
+bits-say {b} z e f = let g = toZ-ofZ w64 z f in ap (toZ w64) e ∙ ap (λ (y : ℤ). toZ w64 (ofZ w64 y)) g ∙ g

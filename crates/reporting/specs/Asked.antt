@@ -1,0 +1,50 @@
+-- Working statements: pages of the listing, asked for one after the other, and the report as it goes out with them.
+use Prim.Native.Nat.{ℕ, _+_, _-_, _*_, _≤_}
+use mathlib.Core.Path.{_≡_}
+use mathlib.Core.List.{List, _++_}
+use lib.IntN.{ℤ}
+use lib.ListN.{length}
+use Rattle.table.specs.Header.{nodesOf, boundOf}
+use Rattle.table.specs.Outcome.{found as accepted}
+use Rattle.tree.specs.Accept.{Accepts}
+use Rattle.tree.specs.Net.{Net}
+use Rattle.pages.specs.Listing.{Entry}
+use Rattle.pages.specs.Passes.{Qualifies}
+use Rattle.pages.specs.Calls.{Paged}
+use Rattle.answers.specs.PathOf.{PathOf}
+use Rattle.lines.specs.Lines.{pairsText, totalText}
+use Rattle.reporting.specs.Report.{Rest}
+
+-- a call of the listing is not refused: an accepted table, a mark for each branch, room for a row
+pub record Ready (s marks rows : List ℕ) : Type 0 where
+  pub accepted : Accepts s (accepted (nodesOf s) (boundOf s))
+  pub marked : length marks ≡ nodesOf s - 1
+  pub room : 16 ≤ length rows
+
+-- what the listing considers
+abbrev pub Counted : List ℕ → List ℕ → ℤ → Entry → Type 0
+Counted s marks floor = Qualifies (PathOf s marks (nodesOf s)) (λ l. l ≤ boundOf s) floor (nodesOf s)
+
+-- a call from (low, high), lent room for a row or more, left these rows, wrote so many and left so many over
+pub record Asked (s marks : List ℕ) (floor : ℤ) (low high : ℕ) (rows : List ℕ) (written left : ℕ) : Type 0 where
+  pub net : Net s (nodesOf s)
+  pub lent : List ℕ
+  pub room : 16 ≤ length lent
+  pub page : Paged (Counted s marks floor) low high lent written left rows
+  pub inside : 16 * written ≤ length rows
+  pub few : written + left ≤ 16777216
+
+-- a page whose lines come next, then those of the pages after it, and then the last line
+pub record Begun (s marks : List ℕ) (floor : ℤ) (total : ℕ) (rows : List ℕ) (written left sent : ℕ) : Type 0 where
+  pub low : ℕ
+  pub high : ℕ
+  pub asked : Asked s marks floor low high rows written left
+  pub rest : Rest s sent (pairsText (asked .page .page .rows) ++ totalText total)
+
+-- a page whose lines have been handed over: those after it come next, and then the last line
+pub record Paging (s marks : List ℕ) (floor : ℤ) (total : ℕ) (rows : List ℕ) (written left sent : ℕ) : Type 0 where
+  pub low : ℕ
+  pub high : ℕ
+  pub asked : Asked s marks floor low high rows written left
+  pub rest : (later : List Entry) → asked .page .page .rows ≡ asked .page .some ++ later
+      → Rest s sent (pairsText later ++ totalText total)

@@ -1,0 +1,4 @@
+-- What the contracts of this crate cite.
+pub mod Decimal
+pub mod Word
+pub mod Put
