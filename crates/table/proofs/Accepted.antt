@@ -77,8 +77,8 @@ not-refused : {n b k r : ℕ} → (k ≡ 0 → ⊥) → refusal k r ≡ found n 
 not-refused n e = n (ap (λ (o : Outcome). o .number) e)
 
 -- a refusal finds nothing: its node count is 0
-nothing-found : (s : List ℕ) {k r : ℕ} → 1 ≤ nodesOf s → refusal k r ≡ found (nodesOf s) (boundOf s) → ⊥
-nothing-found s h e = omega (arith, ap (λ (o : Outcome). o .nodes) e)
+pub nothing-found : {n b k r : ℕ} → 1 ≤ n → refusal k r ≡ found n b → ⊥
+nothing-found h e = omega (arith, ap (λ (o : Outcome). o .nodes) e)
 
 pub opened : (s : List ℕ) (n b : ℕ) → Opens s (outcome (Opened n b)) → Headed s × (n ≡ nodesOf s) × (b ≡ boundOf s)
 opened s n b p =
@@ -87,7 +87,7 @@ opened s n b p =
 
 -- a refused opening is a refused examination, and an opened table is examined row by row
 pub refused-stays : (s : List ℕ) (w : Refusal) → Opens s (outcome (Refused w)) → Examines s (outcome (Refused w))
-refused-stays s w p = header-map (λ o. o) refusal s (λ h e. absurd (nothing-found s h e)) p
+refused-stays s w p = header-map (λ o. o) refusal s (λ h e. absurd (nothing-found h e)) p
 
 pub opened-goes : (s : List ℕ) (n b : ℕ) (o : Outcome) → Opens s (outcome (Opened n b)) → Rows Outcome refusal s n (λ x. x ≡ found n b) o → Examines s o
 opened-goes s n b o p q = let h = opened s n b p in past-header refusal {s = s} (h .0) (rw (h .1, h .2) at q)
@@ -129,7 +129,7 @@ tested-rest refuse s h rows p = settled-rows (λ i. row-number-only (nodesOf s) 
 
 -- how a function that begins with `open_table` hands a refusal on
 pub refused-header : {A : Type 0} (refuse : ℕ → ℕ → A) {rest : A → Type 0} (s : List ℕ) (w : Refusal) → Opens s (outcome (Refused w)) → Header A refuse s rest (refuse (w .number) (w .row))
-refused-header refuse s w p = header-map (λ o. refuse (o .number) (o .row)) refusal s (λ h e. absurd (nothing-found s h e)) p
+refused-header refuse s w p = header-map (λ o. refuse (o .number) (o .row)) refusal s (λ h e. absurd (nothing-found h e)) p
 
 -- all of a list is its part from 0 to its end
 pub take-all : (s : List ℕ) → take (length s - 0) s ≡ s

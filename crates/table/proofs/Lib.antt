@@ -5,3 +5,4 @@ pub mod Near
 pub mod Bits
 pub mod Accepted
 pub mod Only
+pub mod AnswerOnly

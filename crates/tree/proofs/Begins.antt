@@ -1,5 +1,5 @@
 -- Acceptance: from the ring test and the walk to refusals 11 and 12; what an accepted table has; how an operation that begins with `accept` hands a refusal
--- on or goes on; and that each of these promises allows one outcome.
+-- on or goes on; that each of these promises allows one outcome; and that acceptance allows one answer.
 use Prim.Native.Nat.{ℕ, _-_, _≤_, _<_}
 use mathlib.Core.Path.{_≡_, refl, sym, ap, _∙_}
 use mathlib.Core.List.{List}
@@ -12,22 +12,20 @@ use Rattle.table.specs.declared.Refusal.{Refusal}
 use Rattle.table.specs.declared.Opening.the-variants.{Opened}
 use Rattle.table.proofs.Refusals.{past, past-rows, settled, settled-rows, unless-only, first-bad-only, unless-map, first-bad-map}
 use Rattle.table.specs.Row.{rowAt}
-use Rattle.table.proofs.Accepted.{Headed, Good, good, accepted, header-past, past-header, tested-map, tested-rest}
+use Rattle.table.proofs.Accepted.{Headed, Good, good, accepted, nothing-found, header-past, past-header, tested-map, tested-rest}
 use Rattle.table.proofs.Accepted as table
 use Rattle.table.proofs.Only.{tested-only}
 use Rattle.tree.specs.Net.{firstEnd, secondEnd, lengthOf, weightOf, Whole, Net}
 use Rattle.table.specs.Examine.{RowNumber}
 use Rattle.tree.specs.Accept.{RingNumber, Rings, Begins, outcome, Accepts}
 use Rattle.tree.specs.Work.{Readable, Fitting, FirstRing, Reaches}
+use Rattle.tree.specs.declared.Acceptance.{Acceptance}
 use Rattle.tree.specs.declared.Acceptance.the-variants as variants
 use Rattle.tree.proofs.Grown.{reached-all, all-joined}
 
--- what is found is no refusal, and a refusal finds nothing
+-- what is found is no refusal
 pub not-refused : {n b k r : ℕ} → (k ≡ 0 → ⊥) → refusal k r ≡ found n b → ⊥
 not-refused n e = n (ap (λ (o : Outcome). o .number) e)
-
-nothing-found : {n b k r : ℕ} → 1 ≤ n → refusal k r ≡ found n b → ⊥
-nothing-found h e = omega (arith, ap (λ (o : Outcome). o .nodes) e)
 
 -- The code's side
 pub fitting : (s : List ℕ) (n b : ℕ) → Examines s (T.outcome (Opened n b)) → Fitting s n
@@ -150,3 +148,13 @@ begins-net-only {A} refuse s {rest} o x y p q = begins-only refuse s {rest = λ 
 
 pub accept-only : (s : List ℕ) → Only (Accepts s)
 accept-only s = begins-only refusal s (λ x y p q. p ∙ sym q)
+
+-- one answer: no refusal, whatever its number, has the outcome of an accepted net, which has a node
+pub accept-answer-only : (s : List ℕ) (x y : Acceptance) → Accepts s (outcome x) → Accepts s (outcome y) → x ≡ y
+accept-answer-only s x y p q = same x y p q (accept-only s _ _ p q)
+  where
+    same : (x y : Acceptance) → Accepts s (outcome x) → Accepts s (outcome y) → outcome x ≡ outcome y → x ≡ y
+    same (variants.Accepted n b) (variants.Accepted m c) p q e = λ i. variants.Accepted (e i .nodes) (e i .bound)
+    same (variants.Accepted n b) (variants.Refused w) p q e = absurd (nothing-found (admitted s n b p .net .some) (sym e))
+    same (variants.Refused w) (variants.Accepted n b) p q e = absurd (nothing-found (admitted s n b q .net .some) e)
+    same (variants.Refused w) (variants.Refused v) p q e = λ i. variants.Refused (record { number = e i .number; row = e i .row })
