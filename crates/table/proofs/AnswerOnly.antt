@@ -26,4 +26,5 @@ pub open-answer-only : (s : List ℕ) (x y : Opening) → Opens s (outcome x) �
 open-answer-only s = answer-only (open-only s) (λ n b p. let h = opened s n b p in omega (arith, h .0 .some, h .1))
 
 pub examine-answer-only : (s : List ℕ) (x y : Opening) → Examines s (outcome x) → Examines s (outcome y) → x ≡ y
-examine-answer-only s = answer-only (examine-only s) (λ n b p. let h = accepted s n b p in omega (arith, h .headed .some, h .nodes))
+examine-answer-only s =
+    answer-only (examine-only s) (λ n b p. let h = accepted s n b p in omega (arith, h .headed .some, h .nodes))
