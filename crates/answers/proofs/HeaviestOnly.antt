@@ -13,7 +13,7 @@ use Rattle.tree.proofs.Begins.{begins-only}
 use Rattle.pages.specs.Listing.{Entry, Before, first, second}
 use Rattle.answers.specs.Heaviest.{refusal, found, AtLeast, Heaviest, Gives, HeaviestWithin, HeaviestOf}
 
-level : (y z : ℤ) → y ≤ℤ z → z ≤ℤ y → y ≡ z
+pub level : (y z : ℤ) → y ≤ℤ z → z ≤ℤ y → y ≡ z
 level (pos m) (pos n) h k = ap pos (omega (arith, leb→le m n (h .le), leb→le n m (k .le)))
 level (pos m) (negsuc n) h k = absurd (h .le)
 level (negsuc m) (pos n) h k = absurd (k .le)

@@ -1,10 +1,12 @@
--- What has been handed over and what is still to come.
+-- What has been handed over and what is still to come; and a page's lines handed over part by part.
 use Prim.Native.Nat.{ℕ, _+_, _-_, _*_, _≤_, _<_}
 use mathlib.Core.Path.{_≡_, refl, sym, ap, _∙_}
 use mathlib.Core.List.{List, [], _++_, append-assoc, append-nil}
 use native.Mathlib.Omega.{arith}
-use lib.ListN.{length, length-append}
+use lib.ListN.{length, take, length-append}
 use Rattle.pages.specs.Bytes.{entries}
+use Rattle.text.specs.Put.{Put}
+use Rattle.text.proofs.Puts.{put-front}
 use Rattle.lines.specs.Lines.{pairsText}
 use Rattle.lines.proofs.Lining.{lines-join, lines-none}
 use Rattle.reporting.specs.Report.{ReportOf, Rest, Next}
@@ -44,6 +46,19 @@ rest-end a r = record { later = []; rest = rest-as (sym (append-nil a)) r }
 
 pub rest-done : {s : List ℕ} {sent : ℕ} (a : List ℕ) → Rest s sent a → Rest s (sent + length a) []
 rest-done a r = rest-after a [] (rest-as (sym (append-nil a)) r)
+
+-- a text at the front of the buffer is handed over
+pub put-next : {s o t new : List ℕ} {sent n : ℕ} → Next s sent t → Put o 0 t new n → Next s sent (take n new)
+put-next h p = next-as (sym (put-front p)) h
+
+pub put-last : {s o t new : List ℕ} {sent n : ℕ} → Rest s sent t → Put o 0 t new n → Next s sent (take n new)
+put-last {t = t} h p = put-next (rest-end t h) p
+
+pub put-end : {s o t new : List ℕ} {sent n next : ℕ} → Rest s sent t → Put o 0 t new n → next ≡ sent + n
+    → Rest s next []
+put-end {s} {t = t} {sent = sent} {n = n} h p e =
+    let f : n ≡ length t = omega (arith, p .after) in
+    rw (e, f) (rest-done t h)
 
 -- places in the report are small
 pub next-fits : {s : List ℕ} {sent : ℕ} (a : List ℕ) → Next s sent a → sent + length a < 9223372036854775808

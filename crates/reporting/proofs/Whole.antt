@@ -1,13 +1,10 @@
--- From the outcomes of acceptance, heaviest and the first page to the whole report: it is there, it is one, and it is
--- short.
-use Prim.Native.Nat.{ℕ, zero, suc, _+_, _-_, _*_, _≤_, _<_}
+-- From the outcomes of acceptance, heaviest and the first page to the whole report: it is there, and it is short.
+use Prim.Native.Nat.{ℕ, zero, suc, _+_, _-_, _≤_, _<_}
 use mathlib.Core.Path.{_≡_, refl, sym, ap, _∙_}
-use mathlib.Core.List.{List, [], _∷_, _++_}
+use mathlib.Core.List.{List, _∷_, _++_}
 use native.Mathlib.Omega.{arith}
-use lib.Dec.{leb→le}
-use lib.IntN.{ℤ, pos, negsuc}
+use lib.IntN.{ℤ}
 use lib.ListN.{length, take, replicate, length-append, length-replicate}
-use lib.Signed.{_≤ℤ_, ≤ℤ-refl}
 use mir.Syntax.{w64}
 use mir.Val.{SFits, toZ, ofZ}
 use mir.ValLaws.{toZ-ofZ}
@@ -15,85 +12,21 @@ use Rattle.table.specs.Header.{nodesOf, boundOf}
 use Rattle.table.specs.Outcome.{found as accepted, refusal as not-accepted}
 use Rattle.tree.specs.Accept.{Accepts}
 use Rattle.tree.proofs.Begins.{admitted}
-use Rattle.pages.specs.Listing.{Entry, entry, Listing, In, at, past}
+use Rattle.pages.specs.Listing.{Entry, entry, Listing, at}
 use Rattle.pages.specs.Passes.{Passes}
-use Rattle.pages.specs.Bytes.{RowFits}
-use Rattle.pages.proofs.Listings.{listing-iff}
 use Rattle.pages.proofs.Pages.{whole-follows}
 use Rattle.answers.specs.PathOf.{PathOf}
 use Rattle.answers.specs.Heaviest as heaviest
 use Rattle.answers.specs.Heaviest.{HeaviestOf, Heaviest}
 use Rattle.answers.proofs.Bounds.{passes-fits}
 use Rattle.answers.proofs.Demand2.{InReach, found-best}
-use Rattle.text.specs.Word.{word}
 use Rattle.text.specs.Put.{Put}
-use Rattle.text.proofs.Decimals.{decimal-few, signed-few}
-use Rattle.text.proofs.Puts.{put-front}
-use Rattle.lines.specs.Lines.{refusedText, netText, bestText, pairText, pairsText, totalText}
+use Rattle.lines.specs.Lines.{refusedText, netText, bestText, pairsText, totalText}
 use Rattle.reporting.specs.Report.{allFree, Weighing, refused, none, lines, Rest, Next}
-use Rattle.reporting.specs.Asked.{Ready, Counted, Asked, Begun}
-use Rattle.reporting.proofs.Sending.{rest-all, rest-as, rest-end, rest-done, rest-next, rest-after, next-as}
-
--- a text at the front of the buffer is handed over
-pub put-next : {s o t new : List ℕ} {sent n : ℕ} → Next s sent t → Put o 0 t new n → Next s sent (take n new)
-put-next h p = next-as (sym (put-front p)) h
-
-pub put-last : {s o t new : List ℕ} {sent n : ℕ} → Rest s sent t → Put o 0 t new n → Next s sent (take n new)
-put-last {t = t} h p = put-next (rest-end t h) p
-
-pub put-end : {s o t new : List ℕ} {sent n next : ℕ} → Rest s sent t → Put o 0 t new n → next ≡ sent + n
-    → Rest s next []
-put-end {s} {t = t} {sent = sent} {n = n} h p e =
-    let f : n ≡ length t = omega (arith, p .after) in
-    rw (e, f) (rest-done t h)
-
--- how long the lines are
-refused-few : (k r : ℕ) → k < 18446744073709551616 → r < 18446744073709551616 → length (refusedText k r) ≤ 128
-unfolding refusedText word
-refused-few k r h j = simp length-append (omega (arith, decimal-few k h, decimal-few r j))
-
-net-few : (n b : ℕ) → n < 18446744073709551616 → b < 18446744073709551616 → length (netText n b) ≤ 128
-unfolding netText word
-net-few k r h j = simp length-append (omega (arith, decimal-few k h, decimal-few r j))
-
-total-few : (k : ℕ) → k < 18446744073709551616 → length (totalText k) ≤ 128
-unfolding totalText word
-total-few k h = simp length-append (omega (arith, decimal-few k h))
-
-best-few : (e : Entry) → RowFits e → length (bestText e) ≤ 128
-unfolding bestText word
-best-few e s =
-    simp length-append
-    (omega (
-      arith,
-      decimal-few (e .low) (omega (arith, s .low)),
-      decimal-few (e .high) (omega (arith, s .high)),
-      decimal-few (e .length) (omega (arith, s .length)),
-      signed-few (e .weight) (s .weight),
-    ))
-
-pair-few : (e : Entry) → RowFits e → length (pairText e) ≤ 96
-unfolding pairText word
-pair-few e s =
-    simp length-append
-    (omega (
-      arith,
-      decimal-few (e .low) (omega (arith, s .low)),
-      decimal-few (e .high) (omega (arith, s .high)),
-      decimal-few (e .length) (omega (arith, s .length)),
-      signed-few (e .weight) (s .weight),
-    ))
-
-pairs-few : (l : List Entry) → ((e : Entry) → In e l → RowFits e) → length (pairsText l) ≤ 96 * length l
-unfolding pairsText
-pairs-few [] s = omega arith
-pairs-few (e ∷ l) s =
-    omega (
-      arith,
-      length-append (pairText e) (pairsText l),
-      pair-few e (s e (at refl)),
-      pairs-few l (λ x m. s x (past m)),
-    )
+use Rattle.reporting.specs.Asked.{Ready, Asked, Begun}
+use Rattle.lines.proofs.Lengths.{refused-few, net-few, total-few, best-few, pairs-few}
+use Rattle.reporting.proofs.Level.{same-weight}
+use Rattle.reporting.proofs.Sending.{rest-all, rest-as, rest-next, rest-after}
 
 -- one line: a refusal
 pub refused-rest : (s : List ℕ) (k r : ℕ) → k < 18446744073709551616 → r < 18446744073709551616
@@ -104,48 +37,6 @@ pub none-rest : (s marks : List ℕ) (n b k r : ℕ) → k < 1844674407370955161
     → Accepts s (accepted n b) → marks ≡ allFree n → HeaviestOf s marks (heaviest.refusal k r)
     → Rest s 0 (refusedText k r)
 none-rest s marks n b k r h j a e p = rest-all (none {n = n} {b = b} a (rw e at p)) (omega (arith, refused-few k r h j))
-
--- of equal weight: neither more nor less
-level : (y z : ℤ) → y ≤ℤ z → z ≤ℤ y → y ≡ z
-level (pos m) (pos n) h k = ap pos (omega (arith, leb→le m n (h .le), leb→le n m (k .le)))
-level (pos m) (negsuc n) h k = absurd (h .le)
-level (negsuc m) (pos n) h k = absurd (k .le)
-level (negsuc m) (negsuc n) h k = ap negsuc (omega (arith, leb→le n m (h .le), leb→le m n (k .le)))
-
--- the pairs at or above the heaviest weight are those of that weight
-module _ (s marks : List ℕ) (e : Entry) (best : Heaviest (InReach s marks) e) where
-  Same : Entry → Type 0
-  Same = Passes (PathOf s marks (nodesOf s)) (λ l. l ≤ boundOf s) (λ w. w ≡ e .weight) (nodesOf s)
-
-  only-level : (f : Entry) → Counted s marks (e .weight) f → Same f
-  unfolding Same
-  only-level f p =
-      record {
-        pair = p .pair;
-        node = p .node;
-        path = p .path;
-        short = p .short;
-        heavy = level (f .weight) (e .weight)
-            (best .best f
-            (record { pair = p .pair; node = p .node; path = p .path; short = p .short; heavy = tt }) .weight)
-            (p .heavy);
-      }
-
-  level-too : (f : Entry) → Same f → Counted s marks (e .weight) f
-  unfolding Same
-  level-too f p =
-      record {
-        pair = p .pair;
-        node = p .node;
-        path = p .path;
-        short = p .short;
-        heavy = rw (p .heavy) (≤ℤ-refl (e .weight));
-      }
-
-  pub same-weight : {l : List Entry} → Listing (Counted s marks (e .weight)) l
-      → Listing (Passes (PathOf s marks (nodesOf s)) (λ l. l ≤ boundOf s) (λ w. w ≡ e .weight) (nodesOf s)) l
-  unfolding Same
-  same-weight w = listing-iff only-level level-too w
 
 as-weighing : (s marks : List ℕ) (n b n₂ b₂ : ℕ) (e : Entry) {l : List Entry} → n ≡ n₂ → b ≡ b₂ → marks ≡ allFree n
     → Listing (Passes (PathOf s marks n₂) (λ l. l ≤ b₂) (λ w. w ≡ e .weight) n₂) l → Listing (Weighing s n b e) l

@@ -1,4 +1,5 @@
--- Texts put into lent bytes, one after the other.
+-- Texts put into lent bytes: by stores one by one, one after the other; what then stands there; and that a text at a place
+-- leaves one list of bytes and one place after it.
 use mathlib.Core.Path.{_≡_, refl, sym, ap, _∙_}
 use mathlib.Core.List.{List, [], _++_}
 use Prim.Native.Nat.{ℕ, _+_, _≤_}
@@ -40,3 +41,7 @@ put-front {o} {t} {n} {r} p = rw (p .bytes) (take-at t (drop r o) r (omega (arit
 -- the same text, said otherwise
 pub put-as : {o t u n : List ℕ} {at r : ℕ} → t ≡ u → Put o at t n r → Put o at u n r
 put-as e p = rw e at p
+
+-- one outcome
+pub put-only : {o t n m : List ℕ} {at p q : ℕ} → Put o at t n p → Put o at t m q → (n ≡ m) × (p ≡ q)
+put-only f g = (sets-put f ∙ sym (sets-put g), f .after ∙ sym (g .after))

@@ -1,4 +1,4 @@
--- Signed numbers by their 64 bits.
+-- Signed numbers by their 64 bits: what text they make, how long it is, and which bits a number has.
 use mathlib.Core.Path.{_≡_, refl, sym, ap, _∙_}
 use mathlib.Core.Bool.{true, false, true≢false, false≢true}
 use mathlib.Core.List.{List, [], _∷_}

@@ -1,4 +1,4 @@
--- The loops that write words and digits.
+-- The loops that write words and digits: each invariant, and for each turn of the loop one law that keeps it.
 use mathlib.Core.Path.{_≡_, refl, sym, ap, _∙_}
 use mathlib.Core.List.{List, [], _∷_}
 use Prim.Native.Nat.{ℕ, zero, suc, _+_, _-_, _*_, _/_, _%_, _≤_, _<_}

@@ -1,3 +1,4 @@
+-- `pairs` puts the line of each row after the lines of the rows before it.
 use Prim.Native.Nat.{_-_}
 use native.Mathlib.Omega.{arith}
 use Rattle.lines.proofs.Lining.{Lining, lining-none, lining-more, lining-done}

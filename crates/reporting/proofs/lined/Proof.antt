@@ -4,8 +4,8 @@ use native.Mathlib.Omega.{arith}
 use borrow.Author.Needs.{needs}
 use mir.Syntax.{w64}
 use mir.ValLaws.{toZ-ofZ}
-use Rattle.reporting.proofs.Sending.{next-at}
-use Rattle.reporting.proofs.Whole.{ready-free, bits-say, put-next, lined-next, lined-begun}
+use Rattle.reporting.proofs.Sending.{next-at, put-next}
+use Rattle.reporting.proofs.Whole.{ready-free, bits-say, lined-next, lined-begun}
 use Rattle.reporting.proofs.lined.Statement.{statement}
 use Rattle.reporting.proofs.lined.Tie as tie
 
@@ -44,19 +44,22 @@ send-requires c κs =
 
 pairs-requires : tie.Need-pairs-requires
 pairs-requires c κs =
+    let out2 = c .before .before .before .out2 in
     let send-ensures = c .before .before .before .before .send .ensures in
     let nothing-ensures = c .before .before .before .before .before .nothing .ensures in
+    let out = c .before .before .before .before .before .before .before .before .out in
     let back = c .before .before .before .before .before .before .before .before .before in
     let top-ensures = back .top .ensures in
     let bits-of-ensures = back .before .before .bits-of .ensures in
     let bits-of-result = back .before .before .bits-of .result in
+    let rows = back .before .before .before .before .rows in
     let ask-ensures = back .before .before .before .before .before .ask .ensures in
     let back = back .before .before .before .before .before .before .before .before .before .before .before in
     let args = back .args in
     let fits = back .fits in
     let pre = back .pre in (
-      ready-free (pre .0) (pre .1) (omega arith),
-      omega arith,
+      ready-free (pre .0) (pre .1) (omega (arith, pre .3, rows)),
+      omega (arith, pre .4, out, out2),
       rw (toZ-ofZ w64 (args .weight) (fits .weight))
           (lined-begun (args .nodes) (args .bound) (args .low) (args .high) (args .len) bits-of-result (args .weight)
           (pre .0) (pre .1) (pre .2) (rw (toZ-ofZ w64 (args .weight) (fits .weight)) at ask-ensures)

@@ -1,8 +1,7 @@
 -- `refuse` hands over the one line, from the start, and nothing is to come.
 use native.Mathlib.Omega.{arith}
 use borrow.Author.Needs.{needs}
-use Rattle.reporting.proofs.Sending.{rest-at}
-use Rattle.reporting.proofs.Whole.{put-last, put-end}
+use Rattle.reporting.proofs.Sending.{rest-at, put-last, put-end}
 use Rattle.reporting.proofs.refuse.Statement.{statement}
 use Rattle.reporting.proofs.refuse.Tie as tie
 

@@ -1,3 +1,4 @@
+-- `bits_of`: from 0 on the bits are the number itself; below 0 they are 2^64 − 1 less how far −1 lies above it.
 use Prim.Native.Nat.{ℕ, _-_, _<_}
 use mathlib.Core.Path.{_≡_}
 use native.Mathlib.Omega.{arith}

@@ -1,3 +1,4 @@
+-- `digits_of` divides by 10 until one digit is left: a number has one digit more than its tenth part.
 use native.Mathlib.Omega.{arith}
 use Rattle.text.proofs.digits_of.Statement.{statement}
 use Rattle.text.proofs.digits_of.Tie as tie

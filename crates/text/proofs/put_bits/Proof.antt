@@ -1,3 +1,4 @@
+-- `put_bits`: bits below 2^63 are the number itself; the others are a minus and what lacks to 2^64.
 use mathlib.Core.Path.{ap}
 use native.Mathlib.Omega.{arith}
 use lib.ListN.{length}

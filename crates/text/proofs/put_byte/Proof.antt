@@ -1,3 +1,4 @@
+-- `put_byte`: a byte is a text of one.
 use native.Mathlib.Omega.{arith}
 use borrow.Author.Needs.{needs}
 use Rattle.text.proofs.put_byte.Statement.{statement}

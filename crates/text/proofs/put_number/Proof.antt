@@ -1,3 +1,4 @@
+-- `put_number` stores the digits from the last on: those still to come, stored, would make the whole number.
 use native.Mathlib.Omega.{arith}
 use borrow.Author.Needs.{needs}
 use Rattle.text.proofs.put_number.Statement.{statement}

@@ -1,3 +1,4 @@
+-- `put_signed` puts the number by its bits.
 use mathlib.Core.Path.{ap}
 use native.Mathlib.Omega.{arith}
 use lib.ListN.{length}

@@ -1,3 +1,4 @@
+-- `put_word` stores the word's bytes one after the other.
 use Prim.Native.Nat.{_-_}
 use native.Mathlib.Omega.{arith}
 use lib.ListN.{length}

@@ -1,3 +1,4 @@
+-- `four` is two numbers of two bytes.
 use native.Mathlib.Omega.{arith}
 use borrow.Author.Needs.{needs}
 use Rattle.lines.proofs.Reading.{four-is}

@@ -3,7 +3,7 @@ use native.Mathlib.Omega.{arith}
 use mir.Syntax.{w64}
 use mir.ValLaws.{toZ-ofZ}
 use Rattle.reporting.proofs.Paging.{begun-next, begun-out}
-use Rattle.reporting.proofs.Whole.{put-last, put-end}
+use Rattle.reporting.proofs.Sending.{put-last, put-end}
 use Rattle.reporting.proofs.listed.pairs.Statement.{statement}
 use Rattle.reporting.proofs.listed.pairs.Tie as tie
 

@@ -1,0 +1,49 @@
+-- The pairs at or above the heaviest weight are those of that weight, since none weighs more: so the listing with the
+-- heaviest run's weight for its floor is what the report lists.
+use Prim.Native.Nat.{ℕ, _≤_}
+use mathlib.Core.Path.{_≡_}
+use mathlib.Core.List.{List}
+use lib.Signed.{≤ℤ-refl}
+use Rattle.table.specs.Header.{nodesOf, boundOf}
+use Rattle.pages.specs.Listing.{Entry, Listing}
+use Rattle.pages.specs.Passes.{Passes}
+use Rattle.pages.proofs.Listings.{listing-iff}
+use Rattle.answers.specs.PathOf.{PathOf}
+use Rattle.answers.specs.Heaviest.{Heaviest}
+use Rattle.answers.proofs.HeaviestOnly.{level}
+use Rattle.answers.proofs.Demand2.{InReach}
+use Rattle.reporting.specs.Asked.{Counted}
+
+module _ (s marks : List ℕ) (e : Entry) (best : Heaviest (InReach s marks) e) where
+  Same : Entry → Type 0
+  Same = Passes (PathOf s marks (nodesOf s)) (λ l. l ≤ boundOf s) (λ w. w ≡ e .weight) (nodesOf s)
+
+  only-level : (f : Entry) → Counted s marks (e .weight) f → Same f
+  unfolding Same
+  only-level f p =
+      record {
+        pair = p .pair;
+        node = p .node;
+        path = p .path;
+        short = p .short;
+        heavy = level (f .weight) (e .weight)
+            (best .best f
+            (record { pair = p .pair; node = p .node; path = p .path; short = p .short; heavy = tt }) .weight)
+            (p .heavy);
+      }
+
+  level-too : (f : Entry) → Same f → Counted s marks (e .weight) f
+  unfolding Same
+  level-too f p =
+      record {
+        pair = p .pair;
+        node = p .node;
+        path = p .path;
+        short = p .short;
+        heavy = rw (p .heavy) (≤ℤ-refl (e .weight));
+      }
+
+  pub same-weight : {l : List Entry} → Listing (Counted s marks (e .weight)) l
+      → Listing (Passes (PathOf s marks (nodesOf s)) (λ l. l ≤ boundOf s) (λ w. w ≡ e .weight) (nodesOf s)) l
+  unfolding Same
+  same-weight w = listing-iff only-level level-too w
