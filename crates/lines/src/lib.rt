@@ -12,22 +12,20 @@ ghost use Rattle.pages.specs.Listing.{entry};
 ghost use Rattle.pages.specs.Bytes.{entryAt, entries};
 ghost use Rattle.text.specs.Put.{Put};
 ghost use Rattle.lines.specs.Lines.{refusedText, netText, bestText, pairText, pairsText, totalText};
+use fields::LINE_END;
 use fields::field;
-use fields::weight;
+use fields::four_fields;
+use fields::two_fields;
 use numbers::eight;
 use numbers::four;
 use numbers::two;
-
-const LINE_END: u8 = 10;
 
 // `refused 11 row 1`
 pub fn refused(out: &mut [u8], number: u64, row: u64) -> usize
     requires { ⌜ 128 ≤ length (now out) ⌝ }
     ensures { λ r. ⌜ Put (now (out .entry)) 0 (refusedText number row) (now (out .exit)) r × (r ≤ 128) ⌝ }
 {
-    let a = field(out, 0, b"refused ", number);
-    let b = field(out, a, b" row ", row);
-    text::put_byte(out, b, LINE_END)
+    two_fields(out, b"refused ", number, b" row ", row)
 }
 
 // `net 5 bound 8`
@@ -35,9 +33,7 @@ fn net(out: &mut [u8], nodes: u64, bound: u64) -> usize
     requires { ⌜ 128 ≤ length (now out) ⌝ }
     ensures { λ r. ⌜ Put (now (out .entry)) 0 (netText nodes bound) (now (out .exit)) r × (r ≤ 128) ⌝ }
 {
-    let a = field(out, 0, b"net ", nodes);
-    let b = field(out, a, b" bound ", bound);
-    text::put_byte(out, b, LINE_END)
+    two_fields(out, b"net ", nodes, b" bound ", bound)
 }
 
 // `best 1 3 length 6 weight 7`, the weight by its 64 bits
@@ -46,11 +42,17 @@ fn best(out: &mut [u8], at: usize, low: u64, high: u64, len: u64, bits: u64) -> 
     ensures { λ r. ⌜ Put (now (out .entry)) at (bestText (entry low high len (toZ w64 bits))) (now (out .exit)) r
         × (r ≤ at + 128) ⌝ }
 {
-    let a = field(out, at, b"best ", low);
-    let b = field(out, a, b" ", high);
-    let c = field(out, b, b" length ", len);
-    let d = weight(out, c, b" weight ", bits);
-    text::put_byte(out, d, LINE_END)
+    four_fields(
+        out,
+        at,
+        b"best ",
+        low,
+        high,
+        b" length ",
+        len,
+        b" weight ",
+        bits,
+    )
 }
 
 // The first two lines.
@@ -82,11 +84,7 @@ fn pair(out: &mut [u8], at: usize, rows: &[u8], i: usize) -> usize
     let high = two(rows, i + 2);
     let len = four(rows, i + 4);
     let bits = eight(rows, i + 8);
-    let a = field(out, at, b"pair ", low);
-    let b = field(out, a, b" ", high);
-    let c = field(out, b, b" ", len);
-    let d = weight(out, c, b" ", bits);
-    text::put_byte(out, d, LINE_END)
+    four_fields(out, at, b"pair ", low, high, b" ", len, b" ", bits)
 }
 
 // The lines of the rows from one on, up to another: 96 bytes at most for each.

@@ -1,60 +1,32 @@
--- `best` puts its words and numbers one after the other, and the line's end.
+-- `best` puts the words of its line.
 use native.Mathlib.Omega.{arith}
 use borrow.Author.Needs.{needs}
-use Rattle.text.proofs.Puts.{put-then}
 use Rattle.text.specs.Word.{word}
 use Rattle.lines.specs.Lines.{bestText}
 use Rattle.lines.proofs.best.Statement.{statement}
 use Rattle.lines.proofs.best.Tie as tie
 
-slice-aggregate-field : tie.Need-slice-aggregate-field
-slice-aggregate-field c = search needs
+slice-aggregate-four-fields : tie.Need-slice-aggregate-four-fields
+slice-aggregate-four-fields c = search needs
 
-field-requires : tie.Need-field-requires
-field-requires c κs = search needs
+slice-aggregate-four-fields-2 : tie.Need-slice-aggregate-four-fields-2
+slice-aggregate-four-fields-2 c = search needs
 
-slice-aggregate-field-2 : tie.Need-slice-aggregate-field-2
-slice-aggregate-field-2 c = search needs
+slice-aggregate-four-fields-3 : tie.Need-slice-aggregate-four-fields-3
+slice-aggregate-four-fields-3 c = search needs
 
-field-requires-2 : tie.Need-field-requires-2
-field-requires-2 c κs = search needs
-
-slice-aggregate-field-3 : tie.Need-slice-aggregate-field-3
-slice-aggregate-field-3 c = search needs
-
-field-requires-3 : tie.Need-field-requires-3
-field-requires-3 c κs = search needs
-
-slice-aggregate-weight : tie.Need-slice-aggregate-weight
-slice-aggregate-weight c = search needs
-
-weight-requires : tie.Need-weight-requires
-weight-requires c κs = search needs
-
-put-byte-requires : tie.Need-put-byte-requires
-put-byte-requires c κs = search needs
+four-fields-requires : tie.Need-four-fields-requires
+four-fields-requires c κs = search needs
 
 same-length : tie.Need-same-length
 same-length c = search needs
 
 returns : tie.Need-returns
 unfolding bestText word
-returns c =
-    let weight-ensures = c .before .before .before .before .before .before .weight .ensures in
-    let back = c .before .before .before .before .before .before .before .before .before .before .before in
-    let field3-ensures = back .field3 .ensures in
-    let field2-ensures = back .before .before .before .before .before .field2 .ensures in
-    let back = back .before .before .before .before .before .before .before .before .before .before in
-    let field-ensures = back .field .ensures in (
-      put-then
-          (put-then (put-then (put-then (field-ensures .0) (field2-ensures .0)) (field3-ensures .0))
-          (weight-ensures .0))
-          (c .before .before .put-byte .ensures),
-      omega arith,
-    )
+returns c = (c .before .before .four-fields .ensures .0, omega arith)
 
 pub best-spec : {M : Type 1} → statement M
 best-spec =
     tie.close
-    (tie.spec slice-aggregate-field field-requires slice-aggregate-field-2 field-requires-2 slice-aggregate-field-3
-    field-requires-3 slice-aggregate-weight weight-requires put-byte-requires same-length returns)
+    (tie.spec slice-aggregate-four-fields slice-aggregate-four-fields-2 slice-aggregate-four-fields-3
+    four-fields-requires same-length returns)

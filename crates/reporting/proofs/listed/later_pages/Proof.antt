@@ -39,7 +39,7 @@ loop-holds c =
     (pre .0, pre .1, refl, refl, rw (toZ-ofZ w64 (args .floor) (fits .floor)) (pre .2))
 
 sub-i : tie.Need-sub-i Inv-loop μ-loop
-sub-i c = omega (arith, asked-some (c .before .loop .inv .4 .asked) (c .loop-test .taken))
+sub-i c = omega (arith, asked-some (c .before .loop .inv .4 .asked) (omega (arith, c .loop-test .taken)))
 
 mul-i : tie.Need-mul-i Inv-loop μ-loop
 mul-i c = omega (arith, c .before .loop .inv .4 .asked .inside)
@@ -47,7 +47,11 @@ mul-i c = omega (arith, c .before .loop .inv .4 .asked .inside)
 two-requires : tie.Need-two-requires Inv-loop μ-loop
 two-requires c κs =
     let loop-inv = c .before .before .loop .inv in
-    omega (arith, asked-some (loop-inv .4 .asked) (c .before .loop-test .taken), loop-inv .4 .asked .inside)
+    omega (
+      arith,
+      asked-some (loop-inv .4 .asked) (omega (arith, c .before .loop-test .taken)),
+      loop-inv .4 .asked .inside,
+    )
 
 cast-low : tie.Need-cast-low Inv-loop μ-loop
 cast-low c = omega arith
@@ -59,7 +63,7 @@ two-requires-2 : tie.Need-two-requires-2 Inv-loop μ-loop
 two-requires-2 c κs =
     let loop-test-taken = c .before .before .before .loop-test .taken in
     let loop-inv = c .before .before .before .before .loop .inv in
-    omega (arith, asked-some (loop-inv .4 .asked) loop-test-taken, loop-inv .4 .asked .inside)
+    omega (arith, asked-some (loop-inv .4 .asked) (omega (arith, loop-test-taken)), loop-inv .4 .asked .inside)
 
 cast-high : tie.Need-cast-high Inv-loop μ-loop
 cast-high c = omega arith
@@ -79,7 +83,8 @@ page-requires c κs =
     let loop-inv = back .before .loop .inv in (
       ask-ensures .inside,
       omega (arith, loop-inv .1, loop-inv .2),
-      begun-next (paging-again (loop-inv .4) loop-test-taken (two-ensures .0) (two2-ensures .0) ask-ensures),
+      begun-next
+          (paging-again (loop-inv .4) (omega (arith, loop-test-taken)) (two-ensures .0) (two2-ensures .0) ask-ensures),
     )
 
 loop-less : tie.Need-loop-less Inv-loop μ-loop
@@ -90,7 +95,7 @@ loop-less c =
     let two-ensures = back .before .before .two .ensures in
     let loop-test-taken = back .before .before .before .before .loop-test .taken in
     let loop-inv = back .before .before .before .before .before .loop .inv in
-    asked-fewer (loop-inv .4 .asked) loop-test-taken (two-ensures .0) (two2-ensures .0) ask-ensures
+    asked-fewer (loop-inv .4 .asked) (omega (arith, loop-test-taken)) (two-ensures .0) (two2-ensures .0) ask-ensures
 
 loop-again : tie.Need-loop-again Inv-loop μ-loop
 loop-again c =
@@ -104,7 +109,8 @@ loop-again c =
       loop-inv .1,
       omega (arith, loop-inv .2),
       omega (arith, loop-inv .3),
-      begun-out (paging-again (loop-inv .4) loop-test-taken (two-ensures .0) (two2-ensures .0) ask-ensures)
+      begun-out
+          (paging-again (loop-inv .4) (omega (arith, loop-test-taken)) (two-ensures .0) (two2-ensures .0) ask-ensures)
           (c .before .before .page .ensures),
     )
 

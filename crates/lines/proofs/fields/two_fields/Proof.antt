@@ -1,0 +1,28 @@
+-- `two_fields` puts its fields one after the other, and the line's end.
+use native.Mathlib.Omega.{arith}
+use borrow.Author.Needs.{needs}
+use Rattle.text.proofs.Puts.{put-then}
+use Rattle.lines.proofs.fields.two_fields.Statement.{statement}
+use Rattle.lines.proofs.fields.two_fields.Tie as tie
+
+field-requires : tie.Need-field-requires
+field-requires c κs = search needs
+
+field-requires-2 : tie.Need-field-requires-2
+field-requires-2 c κs = search needs
+
+put-byte-requires : tie.Need-put-byte-requires
+put-byte-requires c κs = search needs
+
+same-length : tie.Need-same-length
+same-length c = search needs
+
+returns : tie.Need-returns
+returns c =
+    let field2-ensures = c .before .before .before .before .before .before .field2 .ensures in
+    let back = c .before .before .before .before .before .before .before .before .before .before in
+    let field-ensures = back .field .ensures in
+    (put-then (put-then (field-ensures .0) (field2-ensures .0)) (c .before .before .put-byte .ensures), omega arith)
+
+pub two-fields-spec : {M : Type 1} → statement M
+two-fields-spec = tie.close (tie.spec field-requires field-requires-2 put-byte-requires same-length returns)
