@@ -45,10 +45,11 @@ same-length c = search needs
 returns : tie.Need-returns
 unfolding pairText word
 returns c =
-    let eight-ensures = c .before .before .before .before .before .before .before .eight .ensures in
-    let four-ensures = c .before .before .before .before .before .before .before .before .four .ensures in
-    let two2-ensures = c .before .before .before .before .before .before .before .before .before .two2 .ensures in
-    let two-ensures = c .before .before .before .before .before .before .before .before .before .before .two .ensures in (
+    let back = c .before .before .before .before .before .before .before in
+    let eight-ensures = back .eight .ensures in
+    let four-ensures = back .before .four .ensures in
+    let two2-ensures = back .before .before .two2 .ensures in
+    let two-ensures = back .before .before .before .two .ensures in (
       rw (two-ensures .0, two2-ensures .0, four-ensures .0, eight-ensures)
           at (c .before .before .four-fields .ensures .0),
       omega arith,
