@@ -1,7 +1,7 @@
 # Where the Rattle kit stands, and how a program for x86-64 is run on this machine. To be read by the other scripts
 # (`. tools/kit.sh`).
 command -v rt >/dev/null || {
-    echo "${0##*/}: the Rattle kit is missing: no rt on the PATH. README.md has what is needed, under \"Two commands\"" >&2
+    echo "${0##*/}: the Rattle kit is missing: no rt on the PATH. README.md has what is needed (Two commands)" >&2
     return 1
 }
 kit=$(dirname "$(dirname "$(rt doc)")")
