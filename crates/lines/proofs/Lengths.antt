@@ -56,3 +56,16 @@ pairs-few (e ∷ l) f =
       pair-few e (f e (at refl)),
       pairs-few l (λ x m. f x (past m)),
     )
+
+-- no line is empty
+pub net-some : (n b : ℕ) → 0 < length (netText n b)
+unfolding netText word
+net-some n b = simp length-append (omega arith)
+
+pair-some : (e : Entry) → 0 < length (pairText e)
+unfolding pairText word
+pair-some e = simp length-append (omega arith)
+
+pub pairs-some : (e : Entry) (l : List Entry) → 0 < length (pairsText (e ∷ l))
+unfolding pairsText
+pairs-some e l = omega (arith, length-append (pairText e) (pairsText l), pair-some e)

@@ -86,6 +86,10 @@ pub entries-one : (s : List ℕ) (i : ℕ) → entries s i 1 ≡ entryAt s (16 *
 unfolding entries
 entries-one s i = refl
 
+pub entries-next : (s : List ℕ) (i k : ℕ) → entries s i (suc k) ≡ entryAt s (16 * i) ∷ entries s (i + 1) k
+unfolding entries
+entries-next s i k = refl
+
 pub entries-join : (s : List ℕ) (i j k : ℕ) → entries s i (j + k) ≡ entries s i j ++ entries s (i + j) k
 unfolding entries
 entries-join s i zero k = let e : i + 0 ≡ i = omega arith in let f : 0 + k ≡ k = omega arith in rw (e, f)

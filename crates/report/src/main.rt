@@ -17,7 +17,7 @@ fn read(input: &mut [u8], rows: &mut [u8], out: &mut [u8])
     requires { ⌜ (16 ≤ length (now rows)) × (65536 ≤ length (now out)) ⌝ }
 {
     let n = io::read_full(libc::STDIN_FILENO, input);
-    reporting::report(&input[..n], rows, out);
+    printing::print(&input[..n], rows, out);
 }
 
 fn main() {

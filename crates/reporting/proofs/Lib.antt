@@ -1,6 +1,7 @@
 -- Laws of the report, by topic.
-pub mod Sending
+pub mod Coming
 pub mod Paging
 pub mod Level
 pub mod Whole
+pub mod Steps
 pub mod Only

@@ -71,8 +71,8 @@ module _ (s : List ℕ) where
       let e = same-run n h (with-marks (m .0) k) in
       same-text (m .0) (m .1) e (same-pairs (m .0) (m .1) e v w)
 
-  -- what is handed over at a place is what the report has there; and when nothing is to come, as many bytes as it has
-  -- were handed over
+  -- what comes next at a place is what the report has there; and where nothing is to come, as many bytes as it has went
+  -- before
   pub next-is : {t bytes : List ℕ} {sent : ℕ} → ReportOf s t → Next s sent bytes
       → take (length bytes) (drop sent t) ≡ bytes
   next-is {t} {bytes} {sent} r n =
@@ -80,5 +80,5 @@ module _ (s : List ℕ) where
       rw (e, drop-at (n .rest .before) (bytes ++ n .later) sent (n .rest .place))
       (take-at bytes (n .later) (length bytes) refl)
 
-  pub all-handed : {t : List ℕ} {sent : ℕ} → ReportOf s t → Rest s sent [] → sent ≡ length t
-  all-handed {t} {sent} r n = sym (n .place) ∙ ap length (sym (append-nil (n .before)) ∙ report-only (n .report) r)
+  pub ended-whole : {t : List ℕ} {sent : ℕ} → ReportOf s t → Rest s sent [] → sent ≡ length t
+  ended-whole {t} {sent} r n = sym (n .place) ∙ ap length (sym (append-nil (n .before)) ∙ report-only (n .report) r)

@@ -1,35 +1,37 @@
 -- Pages one after the other: the lines of a page are those of its entries; what follows its last row is what the next
--- page begins with; none left over: all lines are out.
+-- page begins with, and that has a row; none left over: the last line comes.
 use Prim.Native.Nat.{ℕ, suc, _+_, _-_, _*_, _/_, _≤_, _<_}
 use mathlib.Core.Path.{_≡_, refl, sym, ap, _∙_}
 use mathlib.Core.Bool.{false, true≢false}
 use mathlib.Core.List.{List, [], _∷_, _++_, append-assoc, append-nil}
 use native.Mathlib.Omega.{arith}
 use lib.IntN.{ℤ, pos}
-use lib.ListN.{length, drop, length-take, take-append-drop}
+use lib.ListN.{length, drop, length-append, length-take, take-append-drop}
 use lib.Seq.{take-all}
 use Rattle.table.specs.Bytes.{u16At}
 use Rattle.pages.specs.Listing.{Entry, entry, Listing, In}
 use Rattle.pages.specs.Page.{Following}
 use Rattle.pages.specs.Calls.{Paged, done, again}
-use Rattle.pages.specs.Bytes.{rows, RowFits}
+use Rattle.pages.specs.Bytes.{rows, entryAt, entries, RowFits}
 use Rattle.pages.proofs.Members.{in-left}
 use Rattle.pages.proofs.Listings.{listing-only}
 use Rattle.pages.proofs.Rows.{rows-length}
-use Rattle.pages.proofs.Back.{rows-back}
+use Rattle.pages.proofs.Back.{rows-back, entries-next}
 use Rattle.pages.proofs.Pages.{pages-listing, page-full}
 use Rattle.pages.proofs.Calls.{calls-pages}
-use Rattle.pages.proofs.Demand3 as demand
 use Rattle.answers.specs.Listing.{refusal, ListingOf}
 use Rattle.answers.proofs.Few.{listing-room, listing-few}
 use Rattle.answers.proofs.ListingOnly.{listing-page}
 use Rattle.answers.proofs.Bounds.{passes-fits}
 use Rattle.answers.proofs.Demand3.{answered}
+use Rattle.text.specs.Put.{Put}
 use Rattle.lines.specs.Lines.{pairsText, totalText}
-use Rattle.lines.proofs.Lining.{pairs-append}
-use Rattle.reporting.specs.Report.{Rest, Next}
-use Rattle.reporting.specs.Asked.{Ready, Counted, Asked, Begun, Paging}
-use Rattle.reporting.proofs.Sending.{lines, rest-as, rest-next, rest-after}
+use Rattle.lines.proofs.Lining.{pairs-append, lines-join, lines-none}
+use Rattle.lines.proofs.Lengths.{pairs-some}
+use Rattle.reporting.specs.Report.{Rest}
+use Rattle.reporting.specs.Asked.{Ready, Counted, Asked}
+use Rattle.reporting.specs.Pieces.{Comes, Paging}
+use Rattle.reporting.proofs.Coming.{rest-as, comes-before, out-before}
 
 -- a call that is ready is answered by a page
 pub ready-taken : {s marks lent bytes : List ℕ} {floor : ℤ} {low high k r : ℕ} → Ready s marks lent
@@ -62,7 +64,7 @@ module _ {s marks : List ℕ} {floor : ℤ} {low high : ℕ} {bytes : List ℕ} 
       passes-fits s marks (p .net) (g .all .sound e k .0)
 
   -- the lines of its bytes are those of its entries
-  pub asked-lines : lines bytes 0 written ≡ pairsText (p .page .some)
+  pub asked-lines : pairsText (entries bytes 0 written) ≡ pairsText (p .page .some)
   asked-lines =
       rw (p .page .bytes, p .page .count)
       (ap pairsText (rows-back (p .page .some) (drop (16 * length (p .page .some)) (p .lent)) some-fits))
@@ -125,56 +127,108 @@ module _ {s marks : List ℕ} {floor : ℤ} {low high : ℕ} {bytes : List ℕ} 
       (pages-listing
       (calls-pages (λ e q. (omega (arith, q .pair, q .node, p .net .few), omega (arith, q .node, p .net .few))) c))
 
-  pub asked-fewer : {bytes₂ : List ℕ} {written₂ left₂ a b : ℕ} → 0 < left → a ≡ u16At bytes (16 * (written - 1))
-      → b ≡ u16At bytes (16 * (written - 1) + 2) → Asked s marks floor a b bytes₂ written₂ left₂ → left₂ < left
-  asked-fewer z e f q =
-      demand.fewer-left (omega (arith, p .net .few)) (p .room) (p .page) z (q .room) (rw (e, f) at (q .page))
+-- the lines of k rows, from row i on
+abbrev lines : List ℕ → ℕ → ℕ → List ℕ
+lines rows i k = pairsText (entries rows i k)
 
--- a page's lines come next, and then it is out
-module _ {s marks : List ℕ} {floor : ℤ} {total : ℕ} {bytes : List ℕ} {written left sent : ℕ}
-    (p : Begun s marks floor total bytes written left sent) where
-  lined : (r : List Entry) → p .asked .page .page .rows ≡ p .asked .page .some ++ r
-      → Rest s sent (lines bytes 0 written ++ (pairsText r ++ totalText total))
-  lined r e =
-      rest-as
-      (ap (λ (l : List Entry). pairsText l ++ totalText total) e
-      ∙ ap (λ (l : List ℕ). l ++ totalText total) (pairs-append (p .asked .page .some) r)
-      ∙ append-assoc (pairsText (p .asked .page .some)) (pairsText r) (totalText total)
-      ∙ ap (λ (l : List ℕ). l ++ (pairsText r ++ totalText total)) (sym (asked-lines (p .asked))))
-      (p .rest)
+-- the rows from i on, up to e and then up to the end
+parts : (rows : List ℕ) (i e count : ℕ) → i ≤ e → e ≤ count → (u : List ℕ)
+    → lines rows i (count - i) ++ u ≡ lines rows i (e - i) ++ (lines rows e (count - e) ++ u)
+parts rows i e count h k u =
+    let a : e - i + (count - e) ≡ count - i = omega arith in
+    let b : i + (e - i) ≡ e = omega arith in
+    ap (λ (l : List ℕ). l ++ u) (rw (a, b) at (lines-join rows i (e - i) (count - e)))
+    ∙ append-assoc (lines rows i (e - i)) (lines rows e (count - e)) u
 
-  pub begun-next : Next s sent (lines bytes 0 written)
-  begun-next =
-      rest-next (lines bytes 0 written) (pairsText (later (p .asked)) ++ totalText total)
-      (lined (later (p .asked)) (asked-split (p .asked)))
+-- a page whose lines are all to come, with those of what follows it
+pub paging-begin : {s marks : List ℕ} {floor : ℤ} {total low high : ℕ} {bytes : List ℕ} {written left at : ℕ}
+    (q : Asked s marks floor low high bytes written left)
+    → Rest s at (pairsText (q .page .page .rows) ++ totalText total)
+    → Paging s marks floor total bytes written left 0 at
+paging-begin {s} {total = total} {bytes = bytes} {written = written} {at = at} q r =
+    record { low = _; high = _; asked = q; most = omega arith; rest = λ l e. lined l e }
+  where
+    lined : (l : List Entry) → q .page .page .rows ≡ q .page .some ++ l
+        → Rest s at (lines bytes 0 (written - 0) ++ (pairsText l ++ totalText total))
+    lined l e =
+        let z : written - 0 ≡ written = omega arith in
+        rw z
+        (rest-as
+        (ap (λ (m : List Entry). pairsText m ++ totalText total) e
+        ∙ ap (λ (m : List ℕ). m ++ totalText total) (pairs-append (q .page .some) l)
+        ∙ append-assoc (pairsText (q .page .some)) (pairsText l) (totalText total)
+        ∙ ap (λ (m : List ℕ). m ++ (pairsText l ++ totalText total)) (sym (asked-lines q)))
+        r)
 
-  pub begun-out : {next : ℕ} → next ≡ sent + length (lines bytes 0 written)
-      → Paging s marks floor total bytes written left next
-  begun-out e = record {
-    low = p .low;
-    high = p .high;
-    asked = p .asked;
-    rest = λ r h. rw e (rest-after (lines bytes 0 written) (pairsText r ++ totalText total) (lined r h));
-  }
+module _ {s marks : List ℕ} {floor : ℤ} {total : ℕ} {bytes : List ℕ} {written left row at : ℕ}
+    (p : Paging s marks floor total bytes written left row at) where
+  to-come : List Entry → List ℕ
+  to-come l = pairsText l ++ totalText total
 
-pub paging-again :
-    {s marks : List ℕ} {floor : ℤ} {total : ℕ} {bytes bytes₂ : List ℕ} {written left sent written₂ left₂ a b : ℕ}
-    → Paging s marks floor total bytes written left sent → 0 < left → a ≡ u16At bytes (16 * (written - 1))
-    → b ≡ u16At bytes (16 * (written - 1) + 2) → Asked s marks floor a b bytes₂ written₂ left₂
-    → Begun s marks floor total bytes₂ written₂ left₂ sent
-paging-again p z e f q =
-    record {
-      low = _;
-      high = _;
-      asked = q;
-      rest = p .rest (q .page .page .rows)
-          (asked-follow (p .asked) z (q .page .page .rows) (rw (e, f) at (q .page .page .all)));
+  cut : (e : ℕ) → row ≤ e → e ≤ written → (l : List Entry) → p .asked .page .page .rows ≡ p .asked .page .some ++ l
+      → Rest s at (lines bytes row (e - row) ++ (lines bytes e (written - e) ++ to-come l))
+  unfolding to-come
+  cut e h k l q = rest-as (parts bytes row e written h k (to-come l)) (p .rest l q)
+
+  lines-some : (e : ℕ) → row < e → 0 < length (lines bytes row (e - row))
+  lines-some e h =
+      let f : e - row ≡ suc (e - row - 1) = omega arith in
+      rw (f, entries-next bytes row (e - row - 1)) (pairs-some (entryAt bytes (16 * row)) _)
+
+  -- the lines of the next rows come next, and then those after them
+  module _ {o out : List ℕ} {e n : ℕ} (h : row < e) (k : e ≤ written)
+      (put : Put o 0 (lines bytes row (e - row)) out n) where
+    pub paging-comes : Comes s out n at
+    unfolding to-come
+    paging-comes =
+        comes-before (lines bytes e (written - e) ++ to-come (later (p .asked)))
+        (cut e (omega arith) k (later (p .asked)) (asked-split (p .asked))) put (lines-some e h)
+
+    pub paging-on : {next : ℕ} → next ≡ at + n → Paging s marks floor total bytes written left e next
+    unfolding to-come
+    paging-on f = record {
+      low = p .low;
+      high = p .high;
+      asked = p .asked;
+      most = k;
+      rest = λ l q. out-before (lines bytes e (written - e) ++ to-come l) (cut e (omega arith) k l q) put f;
     }
 
-pub paging-done : {s marks : List ℕ} {floor : ℤ} {total : ℕ} {bytes : List ℕ} {written left sent : ℕ}
-    → Paging s marks floor total bytes written left sent → left ≤ 0 → Rest s sent (totalText total)
-unfolding pairsText
-paging-done p z = p .rest [] (asked-whole (p .asked) (omega arith))
+  -- all its rows' lines are out: what follows its last row comes next
+  module _ (end : written ≤ row) where
+    pub after-rows : (l : List Entry) → p .asked .page .page .rows ≡ p .asked .page .some ++ l
+        → Rest s at (pairsText l ++ totalText total)
+    after-rows l q =
+        let z : written - row ≡ 0 = omega arith in
+        let e : lines bytes row (written - row) ≡ [] = rw z (lines-none bytes row) in
+        rest-as (ap (λ (m : List ℕ). m ++ (pairsText l ++ totalText total)) e) (p .rest l q)
+
+    pub paging-last : left ≤ 0 → Rest s at (totalText total)
+    unfolding pairsText
+    paging-last z = after-rows [] (asked-whole (p .asked) (omega arith))
+
+    module _ {bytes₂ : List ℕ} {written₂ left₂ a b : ℕ} (some : 0 < left) (e : a ≡ u16At bytes (16 * (written - 1)))
+        (f : b ≡ u16At bytes (16 * (written - 1) + 2)) (q : Asked s marks floor a b bytes₂ written₂ left₂) where
+      follows : p .asked .page .page .rows ≡ p .asked .page .some ++ q .page .page .rows
+      follows = asked-follow (p .asked) some (q .page .page .rows) (rw (e, f) at (q .page .page .all))
+
+      pub paging-again : Paging s marks floor total bytes₂ written₂ left₂ 0 at
+      paging-again = paging-begin q (after-rows (q .page .page .rows) follows)
+
+      -- and it has a row
+      pub again-some : 0 < written₂
+      again-some =
+          let g = q .page .page in
+          omega (
+            arith,
+            q .page .count,
+            q .room,
+            ap length (g .fit),
+            length-take (length (q .lent) / 16) (g .rows),
+            p .asked .page .page .rest,
+            ap length follows,
+            length-append (p .asked .page .some) (g .rows),
+          )
 
 -- other rows, as many bytes
 pub ready-as : {s marks rows₁ rows₂ : List ℕ} → Ready s marks rows₁ → length rows₂ ≡ length rows₁ → Ready s marks rows₂

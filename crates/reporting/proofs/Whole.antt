@@ -1,6 +1,7 @@
 -- From the outcomes of acceptance, heaviest and the first page to the whole report: it is there, and it is short.
 use Prim.Native.Nat.{ℕ, zero, suc, _+_, _-_, _≤_, _<_}
 use mathlib.Core.Path.{_≡_, refl, sym, ap, _∙_}
+use mathlib.Core.Bool.{true, true≢false}
 use mathlib.Core.List.{List, _∷_, _++_}
 use native.Mathlib.Omega.{arith}
 use lib.IntN.{ℤ}
@@ -22,11 +23,13 @@ use Rattle.answers.proofs.Bounds.{passes-fits}
 use Rattle.answers.proofs.Demand2.{InReach, found-best}
 use Rattle.text.specs.Put.{Put}
 use Rattle.lines.specs.Lines.{refusedText, netText, bestText, pairsText, totalText}
-use Rattle.reporting.specs.Report.{allFree, Weighing, refused, none, lines, Rest, Next}
-use Rattle.reporting.specs.Asked.{Ready, Asked, Begun}
-use Rattle.lines.proofs.Lengths.{refused-few, net-few, total-few, best-few, pairs-few}
+use Rattle.reporting.specs.Report.{allFree, Weighing, refused, none, lines, Rest}
+use Rattle.reporting.specs.Asked.{Ready, Asked}
+use Rattle.reporting.specs.Pieces.{Shown}
+use Rattle.lines.proofs.Lengths.{refused-few, net-few, total-few, best-few, pairs-few, net-some}
 use Rattle.reporting.proofs.Level.{same-weight}
-use Rattle.reporting.proofs.Sending.{rest-all, rest-as, rest-next, rest-after}
+use Rattle.reporting.proofs.Coming.{rest-all, rest-as, comes-before, out-before}
+use Rattle.reporting.proofs.Paging.{paging-begin}
 
 -- one line: a refusal
 pub refused-rest : (s : List ℕ) (k r : ℕ) → k < 18446744073709551616 → r < 18446744073709551616
@@ -87,24 +90,6 @@ module _ (s marks : List ℕ) (n b : ℕ) (e : Entry) {rows : List ℕ} {written
       rest-as (ap (λ (k : ℕ). (netText n b ++ bestText e) ++ (pairsText (q .page .page .rows) ++ totalText k)) number)
       (rest-all (lines {n = n} {b = b} a (rw f at p) listed) (short h))
 
-  pub whole-next : b < 18446744073709551616 → Next s 0 (netText n b ++ bestText e)
-  whole-next h =
-      rest-next (netText n b ++ bestText e) (pairsText (q .page .page .rows) ++ totalText (written + left))
-      (whole-rest h)
-
-  pub whole-begun : b < 18446744073709551616 → {sent : ℕ} → sent ≡ length (netText n b ++ bestText e)
-      → Begun s marks (e .weight) (written + left) rows written left sent
-  whole-begun h {sent} m =
-      let z : 0 + length (netText n b ++ bestText e) ≡ sent = omega (arith, m) in
-      record {
-        low = 0;
-        high = 0;
-        asked = q;
-        rest = rw z
-            at (rest-after (netText n b ++ bestText e) (pairsText (q .page .page .rows) ++ totalText (written + left))
-            (whole-rest h));
-      }
-
 -- as many free branches as the net has
 pub free-part : (n m : ℕ) → n ≤ m → take {A = ℕ} n (replicate m 0) ≡ replicate n 0
 free-part zero m h = refl
@@ -125,19 +110,51 @@ ready-free {s} {n = n} {b = b} a e h =
       room = h;
     }
 
--- the same with the weight by its bits, as the code carries it
-module _ {s marks : List ℕ} (n b low high len bits : ℕ) (w : ℤ) {rows : List ℕ} {written left : ℕ}
-    (a : Accepts s (accepted n b)) (f : marks ≡ allFree n)
-    (p : HeaviestOf s marks (heaviest.found (entry low high len w))) (q : Asked s marks w 0 0 rows written left)
-    (small : b < 18446744073709551616) (e : toZ w64 bits ≡ w) where
-  pub lined-next : Next s 0 (netText n b ++ bestText (entry low high len (toZ w64 bits)))
-  lined-next = rw e (whole-next s marks n b (entry low high len w) a f p q small)
-
-  pub lined-begun : {o new : List ℕ} {m sent : ℕ}
-      → Put o 0 (netText n b ++ bestText (entry low high len (toZ w64 bits))) new m → sent ≡ 0 + m
-      → Begun s marks w (written + left) rows written left sent
-  lined-begun put m =
-      whole-begun s marks n b (entry low high len w) a f p q small (omega (arith, m, rw e at (put .after)))
-
 pub bits-say : {b : ℕ} (z : ℤ) → b ≡ ofZ w64 (toZ w64 (ofZ w64 z)) → SFits w64 z → toZ w64 b ≡ z
 bits-say {b} z e f = let g = toZ-ofZ w64 z f in ap (toZ w64) e ∙ ap (λ (y : ℤ). toZ w64 (ofZ w64 y)) g ∙ g
+
+-- the first two lines come next, and then those of the first page; the weight by its bits, as the code carries it
+module _ {s : List ℕ} (n b low high len bits : ℕ) (w : ℤ) {rows o out : List ℕ} {written left m : ℕ}
+    (a : Accepts s (accepted n b)) (p : HeaviestOf s (allFree n) (heaviest.found (entry low high len w)))
+    (q : Asked s (allFree n) w 0 0 rows written left) (small : b < 18446744073709551616) (small-weight : SFits w64 w)
+    (e : toZ w64 bits ≡ w) (put : Put o 0 (netText n b ++ bestText (entry low high len (toZ w64 bits))) out m) where
+  abbrev best : Entry
+  best = entry low high len w
+
+  abbrev follow : List ℕ
+  follow = pairsText (q .page .page .rows) ++ totalText (written + left)
+
+  whole : Rest s 0 ((netText n b ++ bestText best) ++ follow)
+  whole = whole-rest s (allFree n) n b best a refl p q small
+
+  put-best : Put o 0 (netText n b ++ bestText best) out m
+  put-best = rw e at put
+
+  some : 0 < length (netText n b ++ bestText best)
+  some = omega (arith, length-append (netText n b) (bestText best), net-some n b)
+
+  pub lined-shown : Shown s rows out
+      (record {
+        n = m;
+        place = 0;
+        more = true;
+        nodes = n;
+        floor = w;
+        total = written + left;
+        written = written;
+        left = left;
+        row = 0;
+      })
+  lined-shown =
+      let t = admitted s n b a in
+      record {
+        comes = comes-before follow whole put-best some;
+        last = λ g. absurd (true≢false g);
+        goes = λ _. record {
+          more = refl;
+          accepted = rw (t .nodes, t .bound) at a;
+          nodes = t .nodes;
+          fits = small-weight;
+          paging = paging-begin q (out-before follow whole put-best refl);
+        };
+      }

@@ -1,7 +1,7 @@
--- Working statements: pages of the listing, asked for one after the other, and the report as it goes out with them.
+-- Working statements: pages of the listing, asked for one after the other.
 use Prim.Native.Nat.{ℕ, _+_, _-_, _*_, _≤_}
 use mathlib.Core.Path.{_≡_}
-use mathlib.Core.List.{List, _++_}
+use mathlib.Core.List.{List}
 use lib.IntN.{ℤ}
 use lib.ListN.{length}
 use Rattle.table.specs.Header.{nodesOf, boundOf}
@@ -12,8 +12,6 @@ use Rattle.pages.specs.Listing.{Entry}
 use Rattle.pages.specs.Passes.{Qualifies}
 use Rattle.pages.specs.Calls.{Paged}
 use Rattle.answers.specs.PathOf.{PathOf}
-use Rattle.lines.specs.Lines.{pairsText, totalText}
-use Rattle.reporting.specs.Report.{Rest}
 
 -- a call of the listing is not refused: an accepted table, a mark for each branch, room for a row
 pub record Ready (s marks rows : List ℕ) : Type 0 where
@@ -33,18 +31,3 @@ pub record Asked (s marks : List ℕ) (floor : ℤ) (low high : ℕ) (rows : Lis
   pub page : Paged (Counted s marks floor) low high lent written left rows
   pub inside : 16 * written ≤ length rows
   pub few : written + left ≤ 16777216
-
--- a page whose lines come next, then those of the pages after it, and then the last line
-pub record Begun (s marks : List ℕ) (floor : ℤ) (total : ℕ) (rows : List ℕ) (written left sent : ℕ) : Type 0 where
-  pub low : ℕ
-  pub high : ℕ
-  pub asked : Asked s marks floor low high rows written left
-  pub rest : Rest s sent (pairsText (asked .page .page .rows) ++ totalText total)
-
--- a page whose lines have been handed over: those after it come next, and then the last line
-pub record Paging (s marks : List ℕ) (floor : ℤ) (total : ℕ) (rows : List ℕ) (written left sent : ℕ) : Type 0 where
-  pub low : ℕ
-  pub high : ℕ
-  pub asked : Asked s marks floor low high rows written left
-  pub rest : (later : List Entry) → asked .page .page .rows ≡ asked .page .some ++ later
-      → Rest s sent (pairsText later ++ totalText total)

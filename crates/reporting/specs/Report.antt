@@ -1,4 +1,4 @@
--- The report of a table as text, all branches free; and how much of it has been handed over to be written.
+-- The report of a table as text, all branches free; and how much of it has gone before.
 use Prim.Native.Nat.{ℕ, _-_, _≤_, _<_}
 use mathlib.Core.Path.{_≡_}
 use mathlib.Core.List.{List, _++_}
@@ -29,8 +29,8 @@ pub data ReportOf (s : List ℕ) : List ℕ → Type 0 where
   lines : {n b : ℕ} {e : Entry} {l : List Entry} → Accepts s (accepted n b) → HeaviestOf s (allFree n) (found e)
       → Listing (Weighing s n b e) l → ReportOf s ((netText n b ++ bestText e) ++ (pairsText l ++ totalText (length l)))
 
--- of the report of s so many bytes have been handed over, and these are still to come; none to come: all have been. (No
--- report is so long that a place in it would not fit 64 bits.)
+-- of the report of s so many bytes went before, and these are still to come; none to come: it has ended. (No report is
+-- so long that a place in it would not fit 64 bits.)
 pub record Rest (s : List ℕ) (sent : ℕ) (bytes : List ℕ) : Type 0 where
   pub before : List ℕ
   pub report : ReportOf s (before ++ bytes)

@@ -39,7 +39,7 @@ fn get(input: &mut [u8], n: usize) -> usize
 fn show(input: &[u8], n: usize, rows: &mut [u8], page: usize, out: &mut [u8])
     requires { ⌜ (n ≤ length (now input)) × (16 ≤ page) × (page ≤ length (now rows)) × (65536 ≤ length (now out)) ⌝ }
 {
-    reporting::report(&input[..n], &mut rows[..page], out);
+    printing::print(&input[..n], &mut rows[..page], out);
 }
 
 // A case's head, its table, and its marks, which are passed over: in a report all branches are free.

@@ -5,17 +5,17 @@ use borrow.Author.Needs.{needs}
 use Rattle.reports.proofs.show.Statement.{statement}
 use Rattle.reports.proofs.show.Tie as tie
 
-slice-aggregate-report : tie.Need-slice-aggregate-report
-slice-aggregate-report c = simp length-take (omega arith)
+slice-aggregate-print : tie.Need-slice-aggregate-print
+slice-aggregate-print c = simp length-take (omega arith)
 
-slice-relend-prefix-report : tie.Need-slice-relend-prefix-report
-slice-relend-prefix-report c = search needs
+slice-relend-prefix-print : tie.Need-slice-relend-prefix-print
+slice-relend-prefix-print c = search needs
 
-slice-aggregate-report-2 : tie.Need-slice-aggregate-report-2
-slice-aggregate-report-2 c = simp length-take (omega arith)
+slice-aggregate-print-2 : tie.Need-slice-aggregate-print-2
+slice-aggregate-print-2 c = simp length-take (omega arith)
 
-report-requires : tie.Need-report-requires
-report-requires c κs = (simp length-take (omega arith), omega arith)
+print-requires : tie.Need-print-requires
+print-requires c κs = (simp length-take (omega arith), omega arith)
 
 same-length : tie.Need-same-length
 same-length c = search needs
@@ -29,5 +29,5 @@ returns c = search needs
 pub show-spec : {M : Type 1} → statement M
 show-spec =
     tie.close
-    (tie.spec slice-aggregate-report slice-relend-prefix-report slice-aggregate-report-2 report-requires same-length
+    (tie.spec slice-aggregate-print slice-relend-prefix-print slice-aggregate-print-2 print-requires same-length
     same-length-2 returns)

@@ -8,8 +8,8 @@ use mir.Syntax.{w64}
 use mir.ValLaws.{toZ-ofZ}
 use Rattle.tree.proofs.Begins.{admitted}
 use Rattle.reporting.proofs.Whole.{marks-free, none-rest}
-use Rattle.reporting.proofs.accepted.Statement.{statement}
-use Rattle.reporting.proofs.accepted.Tie as tie
+use Rattle.reporting.proofs.begun.accepted.Statement.{statement}
+use Rattle.reporting.proofs.begun.accepted.Tie as tie
 
 sub-n : tie.Need-sub-n
 sub-n c = omega (arith, admitted _ _ _ (c .before .before .before .before .pre .0) .net .some)
@@ -18,7 +18,7 @@ slice-aggregate-marks : tie.Need-slice-aggregate-marks
 slice-aggregate-marks c =
     let pre = c .before .before .before .before .before .pre in
     simp length-take
-    (omega (arith, ap length (pre .1), length-replicate {A = ℕ} 4095 0, admitted _ _ _ (pre .0) .net .few))
+    (omega (arith, ap length (pre .1 .free), length-replicate {A = ℕ} 4095 0, admitted _ _ _ (pre .0) .net .few))
 
 heaviest-requires : tie.Need-heaviest-requires
 heaviest-requires c κs = search needs
@@ -28,12 +28,12 @@ enum-known-o c = search needs
 
 refuse-requires : tie.Need-refuse-requires
 refuse-requires c κs =
-    let heaviest-ensures = c .before .before .before .before .heaviest .ensures in
-    let pre = c .before .before .before .before .before .before .before .before .before .before .pre in (
-      pre .3,
+    let o-given = c .before .before .before .o .given in
+    let heaviest-ensures = c .before .before .before .before .before .heaviest .ensures in
+    let pre = c .before .before .before .before .before .before .before .before .before .before .before .pre in (
+      pre .1 .text,
       none-rest _ _ _ _ _ _ (omega arith) (omega arith) (pre .0)
-          (marks-free (pre .1) (admitted _ _ _ (pre .0) .net .few) refl)
-          (rw (c .before .before .o .given .1) at heaviest-ensures),
+          (marks-free (pre .1 .free) (admitted _ _ _ (pre .0) .net .few) refl) (rw (o-given .1) at heaviest-ensures),
     )
 
 enum-known-o-2 : tie.Need-enum-known-o-2
@@ -45,25 +45,28 @@ lined-requires c κs =
     let heaviest-ensures = c .before .before .before .before .before .heaviest .ensures in
     let pre = c .before .before .before .before .before .before .before .before .before .before .before .pre in (
       pre .0,
-      marks-free (pre .1) (admitted _ _ _ (pre .0) .net .few) refl,
+      marks-free (pre .1 .free) (admitted _ _ _ (pre .0) .net .few) refl,
       rw (toZ-ofZ w64 (o2-given .0 .1 .1 .1 .0)
           (record { sfits = c .before .before .known-told2 .given .1 .1 .1 .0 .1 }))
           (rw (o2-given .1) at heaviest-ensures),
-      pre .2,
-      pre .3,
+      pre .1 .page,
+      pre .1 .text,
     )
 
 same-length : tie.Need-same-length
 same-length c = search needs
 
-returns : tie.Need-returns
-returns c = c .before .before .refuse .ensures
-
 same-length-2 : tie.Need-same-length-2
 same-length-2 c = search needs
 
+returns : tie.Need-returns
+returns c = c .before .before .refuse .ensures
+
 same-length-3 : tie.Need-same-length-3
 same-length-3 c = search needs
+
+same-length-4 : tie.Need-same-length-4
+same-length-4 c = search needs
 
 returns-2 : tie.Need-returns-2
 returns-2 c = c .before .before .before .before .lined .ensures
@@ -72,4 +75,4 @@ pub accepted-spec : {M : Type 1} → statement M
 accepted-spec =
     tie.close
     (tie.spec sub-n slice-aggregate-marks heaviest-requires enum-known-o refuse-requires enum-known-o-2 lined-requires
-    same-length returns same-length-2 same-length-3 returns-2)
+    same-length same-length-2 returns same-length-3 same-length-4 returns-2)

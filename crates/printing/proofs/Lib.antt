@@ -1,0 +1,1 @@
+-- No law is this crate's own: it cites reporting's.

@@ -1,0 +1,120 @@
+// The first piece: a refusal's one line, or the first two lines of a net that has a heaviest run.
+ghost use Prim.Native.Nat.{_≤_};
+ghost use mathlib.Core.Path.{_≡_};
+ghost use lib.ListN.{length};
+ghost use Rattle.table.specs.Outcome.{found as acceptedAs};
+ghost use Rattle.tree.specs.Accept.{Accepts};
+ghost use Rattle.pages.specs.Listing.{entry};
+ghost use Rattle.answers.specs.Heaviest.{HeaviestOf, found};
+ghost use Rattle.lines.specs.Lines.{refusedText};
+ghost use Rattle.reporting.specs.Report.{allFree, Rest};
+ghost use Rattle.reporting.specs.Pieces.{Lent, Shown};
+use crate::Piece;
+use crate::last;
+use crate::listed::ask;
+use answers::Run;
+use table::Refusal;
+use tree::Acceptance;
+
+fn refuse(table: &[u8], rows: &[u8], out: &mut [u8], why: Refusal) -> Piece
+    requires { ⌜ (65536 ≤ length (now out)) × Rest (now table) 0 (refusedText (why .number) (why .row)) ⌝ }
+    ensures { λ r. ⌜ Shown (now (table .entry)) (now (rows .entry)) (now (out .exit)) r × (r .place ≡ 0) ⌝ }
+{
+    let n = lines::refused(out, why.number as u64, why.row as u64);
+    last(n, 0)
+}
+
+// The first two lines. The first page is asked for with them, so that their number is known.
+fn lined(
+    table: &[u8],
+    nodes: u16,
+    bound: u32,
+    marks: &[u16],
+    low: u16,
+    high: u16,
+    len: u32,
+    weight: i64,
+    rows: &mut [u8],
+    out: &mut [u8],
+) -> Piece
+    requires { ⌜ Accepts (now table) (acceptedAs nodes bound)
+        × (now marks ≡ allFree nodes)
+        × HeaviestOf (now table) (now marks) (found (entry low high len weight))
+        × (16 ≤ length (now rows))
+        × (65536 ≤ length (now out)) ⌝ }
+    ensures { λ r. ⌜ Shown (now (table .entry)) (now (rows .exit)) (now (out .exit)) r × (r .place ≡ 0) ⌝ }
+{
+    let page = ask(table, marks, weight, 0, 0, rows);
+    let bits = text::bits_of(weight);
+    let n = lines::top(
+        out,
+        nodes as u64,
+        bound as u64,
+        low as u64,
+        high as u64,
+        len as u64,
+        bits,
+    );
+    Piece {
+        n,
+        place: 0,
+        more: true,
+        nodes,
+        floor: weight,
+        total: page.written + page.left,
+        written: page.written,
+        left: page.left,
+        row: 0,
+    }
+}
+
+// Of an accepted net. The heaviest run is known before a line is made.
+fn accepted(
+    table: &[u8],
+    nodes: u16,
+    bound: u32,
+    branches: &[u16],
+    rows: &mut [u8],
+    out: &mut [u8],
+) -> Piece
+    requires { ⌜ Accepts (now table) (acceptedAs nodes bound) × Lent (now branches) (now rows) (now out) ⌝ }
+    ensures { λ r. ⌜ Shown (now (table .entry)) (now (rows .exit)) (now (out .exit)) r × (r .place ≡ 0) ⌝ }
+{
+    let n = (nodes as usize) - 1;
+    let marks = &branches[..n];
+    let o = answers::heaviest(table, marks);
+    match o {
+        Run::Refused(why) => refuse(table, rows, out, why),
+        Run::Between {
+            low,
+            high,
+            length,
+            weight,
+        } => lined(
+            table,
+            nodes,
+            bound,
+            marks,
+            low,
+            high,
+            length,
+            weight,
+            rows,
+            out,
+        ),
+    }
+}
+
+// `rows` is lent for pages of the listing, as many rows as fit; `out` for text.
+pub fn first(table: &[u8], branches: &[u16], rows: &mut [u8], out: &mut [u8]) -> Piece
+    requires { ⌜ Lent (now branches) (now rows) (now out) ⌝ }
+    ensures { λ r. ⌜ Shown (now (table .entry)) (now (rows .exit)) (now (out .exit)) r × (r .place ≡ 0) ⌝ }
+{
+    let o = tree::accept(table);
+    match o {
+        Acceptance::Refused(why) => refuse(table, rows, out, why),
+        Acceptance::Accepted { nodes, bound } => {
+            accepted(table, nodes, bound, branches, rows, out)
+        }
+    }
+}
