@@ -5,21 +5,19 @@ mod begun;
 mod listed;
 
 pub use begun::first;
-ghost use Prim.Native.Nat.{_+_, _≤_, _<_};
+ghost use Prim.Native.Nat.{_+_};
 ghost use mathlib.Core.Path.{_≡_};
-ghost use mathlib.Core.Bool.{true, false};
+ghost use mathlib.Core.Bool.{false};
 ghost use lib.ListN.{replicate};
-ghost use Rattle.lines.specs.Lines.{totalText};
-ghost use Rattle.reporting.specs.Report.{Rest};
-ghost use Rattle.reporting.specs.Pieces.{Lent, Going, Shown};
+ghost use Rattle.reporting.specs.Pieces.{Lent, Shown};
 
 // A piece: its n bytes come next, 0 where the report has ended. The rest is how to go on, and nobody else's.
 pub struct Piece {
     pub n: usize,
-    // how many bytes went before it
+    // how many bytes went before it, and whether anything follows
     place: usize,
-    // whether anything follows
     more: bool,
+    // what the listing is asked with, and how many pairs there are
     nodes: u16,
     floor: i64,
     total: usize,
@@ -51,13 +49,6 @@ fn last(n: usize, place: usize) -> Piece
         left: 0,
         row: 0,
     }
-}
-
-// How many bytes of the report went before a piece.
-pub fn place_of(p: Piece) -> usize
-    ensures { λ r. ⌜ r ≡ p .place ⌝ }
-{
-    p.place
 }
 
 // The piece after p: lines of the page's rows, of the next page's, or the last line.

@@ -1,5 +1,5 @@
 // Pieces of the pairs' lines: those of the rows of the page that was last asked for, and then of the page after it.
-ghost use Prim.Native.Nat.{_+_, _*_, _≤_, _<_};
+ghost use Prim.Native.Nat.{_+_, _≤_, _<_};
 ghost use mathlib.Core.Path.{_≡_};
 ghost use lib.ListN.{length};
 ghost use Rattle.reporting.specs.Asked.{Ready, Asked};
