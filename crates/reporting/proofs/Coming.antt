@@ -17,10 +17,10 @@ pub rest-all : {s t : List ℕ} → ReportOf s t → length t < 9223372036854775
 rest-all r h = record { before = []; report = r; place = refl; few = h }
 
 -- the first of what is to come, and what then is
-pub rest-next : {s : List ℕ} {sent : ℕ} (a b : List ℕ) → Rest s sent (a ++ b) → Next s sent a
+pub rest-next : {s : List ℕ} {gone : ℕ} (a b : List ℕ) → Rest s gone (a ++ b) → Next s gone a
 rest-next a b r = record { later = b; rest = r }
 
-pub rest-after : {s : List ℕ} {sent : ℕ} (a b : List ℕ) → Rest s sent (a ++ b) → Rest s (sent + length a) b
+pub rest-after : {s : List ℕ} {gone : ℕ} (a b : List ℕ) → Rest s gone (a ++ b) → Rest s (gone + length a) b
 rest-after a b r = record {
   before = r .before ++ a;
   report = rw (append-assoc (r .before) a b) (r .report);
@@ -28,18 +28,18 @@ rest-after a b r = record {
   few = rw (append-assoc (r .before) a b) (r .few);
 }
 
-pub rest-as : {s a b : List ℕ} {sent : ℕ} → a ≡ b → Rest s sent a → Rest s sent b
+pub rest-as : {s a b : List ℕ} {gone : ℕ} → a ≡ b → Rest s gone a → Rest s gone b
 rest-as e r = rw e at r
 
-pub next-as : {s a b : List ℕ} {sent : ℕ} → a ≡ b → Next s sent a → Next s sent b
+pub next-as : {s a b : List ℕ} {gone : ℕ} → a ≡ b → Next s gone a → Next s gone b
 next-as e r = rw e at r
 
 -- all of it
-pub rest-end : {s : List ℕ} {sent : ℕ} (a : List ℕ) → Rest s sent a → Next s sent a
+pub rest-end : {s : List ℕ} {gone : ℕ} (a : List ℕ) → Rest s gone a → Next s gone a
 rest-end a r = record { later = []; rest = rest-as (sym (append-nil a)) r }
 
 -- places in the report are small
-pub next-fits : {s : List ℕ} {sent : ℕ} (a : List ℕ) → Next s sent a → sent + length a < 9223372036854775808
+pub next-fits : {s : List ℕ} {gone : ℕ} (a : List ℕ) → Next s gone a → gone + length a < 9223372036854775808
 next-fits a n =
     omega (
       arith,

@@ -73,12 +73,12 @@ module _ (s : List ℕ) where
 
   -- what comes next at a place is what the report has there; and where nothing is to come, as many bytes as it has went
   -- before
-  pub next-is : {t bytes : List ℕ} {sent : ℕ} → ReportOf s t → Next s sent bytes
-      → take (length bytes) (drop sent t) ≡ bytes
-  next-is {t} {bytes} {sent} r n =
+  pub next-is : {t bytes : List ℕ} {gone : ℕ} → ReportOf s t → Next s gone bytes
+      → take (length bytes) (drop gone t) ≡ bytes
+  next-is {t} {bytes} {gone} r n =
       let e : t ≡ n .rest .before ++ (bytes ++ n .later) = report-only r (n .rest .report) in
-      rw (e, drop-at (n .rest .before) (bytes ++ n .later) sent (n .rest .place))
+      rw (e, drop-at (n .rest .before) (bytes ++ n .later) gone (n .rest .place))
       (take-at bytes (n .later) (length bytes) refl)
 
-  pub ended-whole : {t : List ℕ} {sent : ℕ} → ReportOf s t → Rest s sent [] → sent ≡ length t
-  ended-whole {t} {sent} r n = sym (n .place) ∙ ap length (sym (append-nil (n .before)) ∙ report-only (n .report) r)
+  pub ended-whole : {t : List ℕ} {gone : ℕ} → ReportOf s t → Rest s gone [] → gone ≡ length t
+  ended-whole {t} {gone} r n = sym (n .place) ∙ ap length (sym (append-nil (n .before)) ∙ report-only (n .report) r)

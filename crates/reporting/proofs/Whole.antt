@@ -13,7 +13,7 @@ use Rattle.table.specs.Header.{nodesOf, boundOf}
 use Rattle.table.specs.Outcome.{found as accepted, refusal as not-accepted}
 use Rattle.tree.specs.Accept.{Accepts}
 use Rattle.tree.proofs.Begins.{admitted}
-use Rattle.pages.specs.Listing.{Entry, entry, Listing, at}
+use Rattle.pages.specs.Listing.{Entry, entry, Listing}
 use Rattle.pages.specs.Passes.{Passes}
 use Rattle.pages.proofs.Pages.{whole-follows}
 use Rattle.answers.specs.PathOf.{PathOf}

@@ -43,6 +43,7 @@ pub record Paging (s marks : List ℕ) (floor : ℤ) (total : ℕ) (rows : List 
   pub rest : (later : List Entry) → asked .page .page .rows ≡ asked .page .some ++ later
       → Rest s at (pairsText (entries rows row (written - row)) ++ (pairsText later ++ totalText total))
 
+-- what is needed to go on from a place: the table is accepted, and the page is one of the listing that the report lists
 pub record Going (s rows : List ℕ) (p : Piece) (at : ℕ) : Type 0 where
   pub more : p .more ≡ true
   pub accepted : Accepts s (accepted (nodesOf s) (boundOf s))

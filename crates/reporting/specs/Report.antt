@@ -31,13 +31,13 @@ pub data ReportOf (s : List ℕ) : List ℕ → Type 0 where
 
 -- of the report of s so many bytes went before, and these are still to come; none to come: it has ended. (No report is
 -- so long that a place in it would not fit 64 bits.)
-pub record Rest (s : List ℕ) (sent : ℕ) (bytes : List ℕ) : Type 0 where
+pub record Rest (s : List ℕ) (gone : ℕ) (bytes : List ℕ) : Type 0 where
   pub before : List ℕ
   pub report : ReportOf s (before ++ bytes)
-  pub place : length before ≡ sent
+  pub place : length before ≡ gone
   pub few : length (before ++ bytes) < 9223372036854775808
 
 -- the bytes that come next
-pub record Next (s : List ℕ) (sent : ℕ) (bytes : List ℕ) : Type 0 where
+pub record Next (s : List ℕ) (gone : ℕ) (bytes : List ℕ) : Type 0 where
   pub later : List ℕ
-  pub rest : Rest s sent (bytes ++ later)
+  pub rest : Rest s gone (bytes ++ later)
