@@ -76,6 +76,17 @@ static void compare(int op, const char *shape) {
     }
 }
 
+static void mark_every_third(uint16_t mark) {
+    for (size_t r = 0; r + 1 < n; r += 3) marks_scan[r] = marks_library[r] = mark;
+}
+
+/* The same under marks, so that what a marked row weighs is compared too. */
+static void compare_marked(const char *shape) {
+    mark_every_third(9);
+    for (int op = 0; op < OPS; op++) compare(op, shape);
+    mark_every_third(0);
+}
+
 #define X(i) (90 + 250 * (double)(i))
 static double low_y, high_y;
 static double y_of(double seconds) { return 420 - 370 * (log10(seconds) - low_y) / (high_y - low_y); }
@@ -147,6 +158,7 @@ int main(int argc, char **argv) {
             memset(marks_scan, 0, sizeof marks_scan), memset(marks_library, 0, sizeof marks_library);
             memset(page_scan, 0, PAGE), memset(page_library, 0, PAGE);
             scan_heaviest(table, table_len, marks_scan, n - 1, best);
+            compare_marked(shape_names[s]);
             for (int op = 0; op < OPS; op++) {
                 int64_t answer[8];
                 compare(op, shape_names[s]);

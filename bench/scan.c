@@ -9,7 +9,7 @@ typedef struct {
     size_t n;
     int64_t bound;
     uint16_t a[MOST], b[MOST];       /* each row's ends */
-    int32_t length[MOST], weight[MOST]; /* a marked row weighs 0 */
+    int32_t length[MOST], weight[MOST]; /* a marked row weighs the lesser of 0 and its own */
     uint32_t first[MOST + 1];        /* the halves of node x stand from first[x] to first[x + 1] */
     uint16_t to[2 * MOST], row[2 * MOST];
 } net;
@@ -83,7 +83,7 @@ static uint8_t begin(const uint8_t *s, size_t len, const uint16_t *marks, size_t
     if (number) return number;
     if (marks_len != t->n - 1) return refuse(answer, 13, 0);
     for (size_t r = 0; r + 1 < t->n; r++)
-        if (marks[r]) t->weight[r] = 0;
+        if (marks[r] && t->weight[r] > 0) t->weight[r] = 0;
     return 0;
 }
 

@@ -19,7 +19,8 @@
      between calls, so that calls from several threads do not meet.
 
    table     the branch table, version 1: 12 x n bytes
-   marks     one number for each branch, in row order, n - 1 of them: 0 free, 1 to 65,534 held by that run, 65,535 spent
+   marks     one number for each branch, in row order, n - 1 of them: 0 free, 1 to 65,534 held by that run, 65,535 spent.
+             A marked branch weighs the lesser of 0 and its own weight; its length stays
 
    Refusal numbers, each given exactly when its condition holds and none before it in the operation's order does:
         1  under 12 bytes                         11  ring: the row whose ends earlier rows already join
@@ -40,9 +41,9 @@
 #include <stdint.h>
 
 /* The library's version; CHANGES.md says how it moves. */
-#define HB_VERSION "1.0.0"
+#define HB_VERSION "1.1.0"
 #define HB_VERSION_MAJOR 1
-#define HB_VERSION_MINOR 0
+#define HB_VERSION_MINOR 1
 #define HB_VERSION_PATCH 0
 
 #ifdef __cplusplus

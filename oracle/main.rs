@@ -1,4 +1,4 @@
-//! The second program: makes cases from a seed, and answers cases from document 01's words alone.
+//! The second program: makes cases from a seed, and answers cases from the words of documents 01 and 02 alone.
 mod cases;
 mod make;
 mod net;

@@ -1,4 +1,4 @@
-//! A net and what every operation says of it, straight from document 01: plain scans, nothing clever.
+//! A net and what every operation says of it, straight from documents 01 and 02: plain scans, nothing clever.
 
 /// A refusal: its number and the row it names (0 where it names none).
 pub type Refused = (u8, usize);
@@ -99,7 +99,7 @@ pub fn accept(s: &[u8]) -> Result<Net, Refused> {
 }
 
 impl Net {
-    /// Walks from `a` to every node. A marked branch weighs 0.
+    /// Walks from `a` to every node. A marked branch weighs the lesser of 0 and its own weight (document 02, Req 01).
     pub fn from(&self, a: usize, marks: &[u16]) -> From {
         let mut f = From { length: vec![0; self.n], weight: vec![0; self.n], last: vec![None; self.n] };
         let mut to_do = vec![a];
@@ -109,7 +109,7 @@ impl Net {
                     continue;
                 }
                 f.length[y] = f.length[x] + self.rows[r].length;
-                f.weight[y] = f.weight[x] + if marks[r] == 0 { self.rows[r].weight } else { 0 };
+                f.weight[y] = f.weight[x] + if marks[r] == 0 { self.rows[r].weight } else { self.rows[r].weight.min(0) };
                 f.last[y] = Some((r, x));
                 to_do.push(y);
             }

@@ -1,4 +1,6 @@
 // Marks: free, held by a run, spent; what a marked branch weighs; the operations claim, commit and abort.
+ghost use mathlib.Core.Path.{_≡_};
+ghost use Prim.Native.Nat.{min};
 ghost use Rattle.marks.specs.Weighs.{LiftedUnder};
 ghost use Rattle.marks.specs.Change.{outcome, Commits, Aborts};
 ghost use Rattle.marks.specs.Claim.{Claims};
@@ -24,12 +26,22 @@ pub enum Change {
 pub fn lifted_under(table: &[u8], marks: &[u16], row: usize) -> u32
     ensures { λ q. ⌜ LiftedUnder (now (table .entry)) (now (marks .entry)) row q ⌝ }
 {
+    let own = table::lifted_at(table, row);
     if row < marks.len() {
         if marks[row] != FREE {
-            return 1000000;
+            return lesser(own, 1000000);
         }
     }
-    table::lifted_at(table, row)
+    own
+}
+
+fn lesser(x: u32, y: u32) -> u32
+    ensures { λ q. ⌜ q ≡ min x y ⌝ }
+{
+    if x < y {
+        return x;
+    }
+    y
 }
 
 // Each free branch of the path between a and b becomes held by the run.

@@ -1,4 +1,5 @@
--- The claim: all starred cases of document 01 hold of the definitions. Each operation has a test that computes and a law that what passes it holds; the list is then a computation.
+-- The claim: all starred cases of document 01, and that of Req 01, hold of the definitions. Each operation has a test
+-- that computes and a law that what passes it holds; the list is then a computation.
 use Prim.Native.Nat.{ℕ}
 use mathlib.Core.Bool.{Bool, true, _&&_}
 use mathlib.Core.List.{List, [], _∷_}
@@ -15,7 +16,7 @@ use Rattle.spines.proofs.Head.{head-some}
 use Rattle.marks.specs.Weighs.{weighs, weightUnder}
 use Rattle.pages.specs.Bytes.{bytes, row, rows}
 use Rattle.worked.specs.Case.{Case, heaviest, listing, heads, leaves, pair, claim, Holds, All}
-use Rattle.worked.specs.Cases.{n5, free, held, marked, lent, three, cases}
+use Rattle.worked.specs.Cases.{n5, free, held, marked, crossed, lent, three, cases}
 use Rattle.worked.proofs.Tests.{both, every, below, has, throughout, no-repeat, same}
 use Rattle.worked.proofs.Accepted.{accepted?}
 use Rattle.worked.proofs.Ways.{other, met, leads, path?}
@@ -76,5 +77,9 @@ all-hold (c ∷ l) t = let a = both (check c) (check-all l) t in (check-holds c 
 
 -- Every starred case holds.
 pub cases-hold : All cases
-unfolding head-some main? main-some best many count-dec leaves-some leaf-under? leaf? child? above? some? decLt decLe up by heads? leaves? pair? hangs? par headAt once heads-of check-all check cases n5 free held marked lent three way ways heaviest? claim? frees throughout listing? seconds firsts bytes row rows rising? each has-entry same-entry same accepted? ways? path? leads met other wanted? all-pairs at-least? after? every below has no-repeat label relabel grows ℕ-discrete firstEnd secondEnd lengthOf weightOf weightUnder weighs Total
+unfolding head-some main? main-some best many count-dec leaves-some leaf-under? leaf? child? above? some? decLt decLe up
+    by heads? leaves? pair? hangs? par headAt once heads-of check-all check cases n5 free held marked crossed lent three
+    way ways heaviest? claim? frees throughout listing? seconds firsts bytes row rows rising? each has-entry same-entry
+    same accepted? ways? path? leads met other wanted? all-pairs at-least? after? every below has no-repeat label
+    relabel grows ℕ-discrete firstEnd secondEnd lengthOf weightOf weightUnder weighs Total
 cases-hold = all-hold cases tt

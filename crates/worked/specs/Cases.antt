@@ -1,4 +1,5 @@
--- The starred cases of document 01: the small net N5 under several bounds, what is asked of it, and the answers.
+-- The starred cases of document 01 and the one that document 02, Req 01, gives: the small net N5 under several bounds,
+-- what is asked of it, and the answers.
 use Prim.Native.Nat.{ℕ}
 use mathlib.Core.Bool.{false}
 use mathlib.Core.List.{List, [], _∷_, _++_}
@@ -9,7 +10,8 @@ use Rattle.marks.specs.Change as M
 use Rattle.answers.specs.Heaviest as H
 use Rattle.worked.specs.Case.{Case, heaviest, listing, heads, leaves, pair, claim}
 
--- N5 as a table: R T N, version 1, 5 nodes, reserved, bound B (below 256); then the rows (0,1) 4, 5; (1,2) 3, 2; (1,3) 6, 7; (3,4) 2, −3
+-- N5 as a table: R T N, version 1, 5 nodes, reserved, bound B (below 256); then the rows
+-- (0,1) 4, 5; (1,2) 3, 2; (1,3) 6, 7; (3,4) 2, −3
 unfoldable pub n5 : ℕ → List ℕ
 n5 bound =
     (82 ∷ 84 ∷ 78 ∷ 1 ∷ 0 ∷ 5 ∷ 0 ∷ 0 ∷ bound ∷ 0 ∷ 0 ∷ 0 ∷ [])
@@ -29,6 +31,10 @@ held = 0 ∷ 7 ∷ 7 ∷ 0 ∷ []
 unfoldable pub marked : List ℕ
 marked = 7 ∷ 0 ∷ 7 ∷ 0 ∷ []
 
+-- run 5 holds the branch 3–4, whose own weight is −3
+unfoldable pub crossed : List ℕ
+crossed = 0 ∷ 0 ∷ 0 ∷ 5 ∷ []
+
 -- lent memory before a call: any bytes
 unfoldable pub lent : List ℕ
 lent = 1 ∷ 2 ∷ 3 ∷ 4 ∷ 5 ∷ 6 ∷ 7 ∷ 8 ∷ 9 ∷ 10 ∷ 11 ∷ 12 ∷ 13 ∷ 14 ∷ 15 ∷ 16 ∷ []
@@ -47,8 +53,10 @@ cases =
     ∷ heaviest (n5 10) free (H.found (entry 0 3 10 (pos 12)))
     ∷ heaviest (n5 2) free (H.found (entry 3 4 2 (negsuc 2)))
     ∷ heaviest (n5 1) free (H.refusal 16 0)
-    ∷ listing (n5 9) free (pos 7) 0 0 (lent ++ lent ++ lent ++ lent) (record { refused = false; number = 0; row = 0; written = 3; left = 0; bytes = three ++ lent })
-    ∷ listing (n5 9) free (pos 10) 0 0 lent (record { refused = false; number = 0; row = 0; written = 0; left = 0; bytes = lent })
+    ∷ listing (n5 9) free (pos 7) 0 0 (lent ++ lent ++ lent ++ lent)
+    (record { refused = false; number = 0; row = 0; written = 3; left = 0; bytes = three ++ lent })
+    ∷ listing (n5 9) free (pos 10) 0 0 lent
+    (record { refused = false; number = 0; row = 0; written = 0; left = 0; bytes = lent })
     ∷ heads (n5 9) (9 ∷ 9 ∷ 9 ∷ 9 ∷ 9 ∷ []) (S.written (0 ∷ 0 ∷ 0 ∷ 3 ∷ 3 ∷ []))
     ∷ leaves (n5 9) (2 ∷ 4 ∷ [])
     ∷ pair (n5 9) free 2 4 (record { number = 0; row = 0; length = 11; weight = pos 6; hops = 2 })
@@ -57,4 +65,5 @@ cases =
     ∷ claim (n5 9) held 8 1 3 (M.refusal held 19 0)
     ∷ claim (n5 9) free 7 0 3 (M.refusal free 18 0)
     ∷ claim (n5 9) marked 7 0 3 (M.refusal marked 18 0)
+    ∷ heaviest (n5 2) crossed (H.found (entry 3 4 2 (negsuc 2)))
     ∷ []
