@@ -1,5 +1,6 @@
--- THE ANSWER ITSELF. Of two answers whose outcomes meet an operation's promise, both are one: no refusal, whatever its number, has the outcome of a run, a path or a page.
--- The heaviest run's second node is not 0; a path touches one spine at the least; of the listing an outcome says whether it was refused.
+-- THE ANSWER ITSELF. Of two answers whose outcomes meet an operation's promise, both are one: no refusal, whatever its
+-- number, has the outcome of a run, a path or a page. The heaviest run's second node is not 0; a path touches one spine
+-- at the least; of the listing an outcome says whether it was refused.
 use Prim.Native.Nat.{ℕ, _<_}
 use mathlib.Core.Path.{_≡_, refl, sym, ap}
 use mathlib.Core.List.{List}
@@ -33,14 +34,17 @@ module _ (s marks : List ℕ) where
       let t = found-best s marks o z p in
       omega (arith, run-joins s marks (t .0) (t .1) .0, ap (λ (x : H.Outcome). x .high) (t .2))
 
-  no-run : (a b l : ℕ) (w : ℤ) (r : Refusal) → HeaviestOf s marks (H.outcome (run.Between a b l w)) → H.outcome (run.Between a b l w) ≡ H.outcome (run.Refused r) → ⊥
+  no-run : (a b l : ℕ) (w : ℤ) (r : Refusal) → HeaviestOf s marks (H.outcome (run.Between a b l w))
+      → H.outcome (run.Between a b l w) ≡ H.outcome (run.Refused r) → ⊥
   no-run a b l w r p e = omega (arith, second-node _ refl p, ap (λ (x : H.Outcome). x .high) e)
 
   pub heaviest-answer-only : (x y : Run) → HeaviestOf s marks (H.outcome x) → HeaviestOf s marks (H.outcome y) → x ≡ y
   heaviest-answer-only x y p q = same x y p q (heaviest-only s marks _ _ p q)
     where
-      same : (x y : Run) → HeaviestOf s marks (H.outcome x) → HeaviestOf s marks (H.outcome y) → H.outcome x ≡ H.outcome y → x ≡ y
-      same (run.Between a b l w) (run.Between c d k z) p q e = λ i. run.Between (e i .low) (e i .high) (e i .length) (e i .weight)
+      same : (x y : Run) → HeaviestOf s marks (H.outcome x) → HeaviestOf s marks (H.outcome y)
+          → H.outcome x ≡ H.outcome y → x ≡ y
+      same (run.Between a b l w) (run.Between c d k z) p q e =
+          λ i. run.Between (e i .low) (e i .high) (e i .length) (e i .weight)
       same (run.Between a b l w) (run.Refused r) p q e = absurd (no-run a b l w r p e)
       same (run.Refused r) (run.Between a b l w) p q e = absurd (no-run a b l w r q (sym e))
       same (run.Refused r) (run.Refused t) p q e = λ i. run.Refused (record { number = e i .number; row = e i .row })
@@ -53,18 +57,25 @@ module _ (s marks : List ℕ) where
         let h = head-there a (t .0) (t .1 .first) in
         count-some (h .0) (record { node = a; on = at refl; head = h .1 }) (t .2 .hops .touches)
 
-    no-path : (l : ℕ) (w : ℤ) (h : ℕ) (r : Refusal) → PairOf s marks a b (P.outcome (path.Found l w h)) → P.outcome (path.Found l w h) ≡ P.outcome (path.Refused r) → ⊥
+    no-path : (l : ℕ) (w : ℤ) (h : ℕ) (r : Refusal) → PairOf s marks a b (P.outcome (path.Found l w h))
+        → P.outcome (path.Found l w h) ≡ P.outcome (path.Refused r) → ⊥
     no-path l w h r p e = omega (arith, some-hops _ refl p, ap (λ (x : P.Outcome). x .hops) e)
 
-    pub pair-answer-only : (x y : PairAnswer) → PairOf s marks a b (P.outcome x) → PairOf s marks a b (P.outcome y) → x ≡ y
+    pub pair-answer-only : (x y : PairAnswer) → PairOf s marks a b (P.outcome x) → PairOf s marks a b (P.outcome y)
+        → x ≡ y
     pair-answer-only x y p q = same x y p q (pair-only s marks a b _ _ p q)
       where
-        same : (x y : PairAnswer) → PairOf s marks a b (P.outcome x) → PairOf s marks a b (P.outcome y) → P.outcome x ≡ P.outcome y → x ≡ y
+        same : (x y : PairAnswer) → PairOf s marks a b (P.outcome x) → PairOf s marks a b (P.outcome y)
+            → P.outcome x ≡ P.outcome y → x ≡ y
         same (path.Found l w h) (path.Found k z g) p q e = λ i. path.Found (e i .length) (e i .weight) (e i .hops)
         same (path.Found l w h) (path.Refused r) p q e = absurd (no-path l w h r p e)
         same (path.Refused r) (path.Found l w h) p q e = absurd (no-path l w h r q (sym e))
-        same (path.Refused r) (path.Refused t) p q e = λ i. path.Refused (record { number = e i .number; row = e i .row })
+        same (path.Refused r) (path.Refused t) p q e =
+            λ i. path.Refused (record { number = e i .number; row = e i .row })
 
   -- listing
-  pub listing-answer-only : (floor : ℤ) (low high : ℕ) (old : List ℕ) (x y : Listed) (l m : List ℕ) → ListingOf s marks floor low high old (L.outcome x l) → ListingOf s marks floor low high old (L.outcome y m) → x ≡ y
-  listing-answer-only floor low high old x y l m p q = listed-one x y l m (listing-only s marks floor low high old _ _ p q)
+  pub listing-answer-only : (floor : ℤ) (low high : ℕ) (old : List ℕ) (x y : Listed) (l m : List ℕ)
+      → ListingOf s marks floor low high old (L.outcome x l) → ListingOf s marks floor low high old (L.outcome y m)
+      → x ≡ y
+  listing-answer-only floor low high old x y l m p q =
+      listed-one x y l m (listing-only s marks floor low high old _ _ p q)

@@ -1,4 +1,5 @@
--- The promise of heaviest allows one outcome, under any length test: of two heaviest runs each is at least as good as the other, so they agree in weight, length and pair.
+-- The promise of heaviest allows one outcome, under any length test: of two heaviest runs each is at least as good as
+-- the other, so they agree in weight, length and pair.
 use Prim.Native.Nat.{ℕ, _<_}
 use mathlib.Core.Path.{_≡_, sym, ap, _∙_}
 use mathlib.Core.List.{List}
@@ -46,7 +47,8 @@ heaviest-run-only P e f p q =
     λ i. record { low = c .0 i; high = c .1 i; length = l i; weight = w i }
 
 gives-only : (P : Entry → Type 0) → Only (Gives P)
-gives-only P x y p q = p .is ∙ ap found (heaviest-run-only P (p .run) (q .run) (p .heaviest) (q .heaviest)) ∙ sym (q .is)
+gives-only P x y p q =
+    p .is ∙ ap found (heaviest-run-only P (p .run) (q .run) (p .heaviest) (q .heaviest)) ∙ sym (q .is)
 
 pub heaviest-within-only : (Within : ℕ → Type 0) (s marks : List ℕ) → Only (HeaviestWithin Within s marks)
 heaviest-within-only Within s marks = begins-only refusal s (unless-only (unless-only (gives-only _)))

@@ -1,4 +1,5 @@
--- The heaviest run of an accepted net, from the best pair as the lists carry it, lifted by 2^40: none where its weight is 0, else the entry that its fields make.
+-- The heaviest run of an accepted net, from the best pair as the lists carry it, lifted by 2^40: none where its weight
+-- is 0, else the entry that its fields make.
 use Prim.Native.Nat.{ℕ, _+_, _-_, _≤_, _<_}
 use mathlib.Core.Path.{_≡_, refl, sym, ap}
 use mathlib.Core.Logic.{_⊎_, inl, inr, _≢_}
@@ -38,7 +39,15 @@ module _ (s marks : List ℕ) {n bound : ℕ} (net : Net s n) {b : Best} (h : Be
       let c = t .1 in
       let e : f .length ≡ c .l = length-only (firstEnd s) (secondEnd s) (net .forest) (p .path) (c .value) in
       let w : f .weight ≡ c .w = weight-only (firstEnd s) (secondEnd s) (net .forest) (p .path) (c .value) in
-      record { one = t .0; length = omega (arith, c .length); weight = equally w (c .weight); low = c .low; high = c .high; near = c .near-low; less = t .2 (omega (arith, c .length, p .short)) }
+      record {
+        one = t .0;
+        length = omega (arith, c .length);
+        weight = equally w (c .weight);
+        low = c .low;
+        high = c .high;
+        near = c .near-low;
+        less = t .2 (omega (arith, c .length, p .short));
+      }
 
   pub none-within : b .weight ≡ 0 → (e : Entry) × Runs (λ l. l ≤ bound) s marks n e → ⊥
   none-within z e = let t = beaten (e .0) (e .1) in omega (arith, t .near, t .less .weight)
@@ -46,7 +55,8 @@ module _ (s marks : List ℕ) {n bound : ℕ} (net : Net s n) {b : Best} (h : Be
   pub is-pair : b .weight ≢ 0 → Carried (PathOf s marks n) n (b .low) (b .high) b × (b .length ≤ bound + lift)
   is-pair m = pick (h .comes)
     where
-      pick : (b ≡ best4 0 0 0 0) ⊎ (Carried (PathOf s marks n) n (b .low) (b .high) b × (b .length ≤ bound + lift)) → Carried (PathOf s marks n) n (b .low) (b .high) b × (b .length ≤ bound + lift)
+      pick : (b ≡ best4 0 0 0 0) ⊎ (Carried (PathOf s marks n) n (b .low) (b .high) b × (b .length ≤ bound + lift))
+          → Carried (PathOf s marks n) n (b .low) (b .high) b × (b .length ≤ bound + lift)
       pick (inl e) = absurd (m (ap (λ x. x .weight) e))
       pick (inr c) = c
 
@@ -60,7 +70,8 @@ module _ (s marks : List ℕ) {n bound : ℕ} (net : Net s n) {b : Best} (h : Be
   pub weight-fits : b .weight ≢ 0 → (lift ≤ b .weight + 8589934592) × (b .weight < lift + 8589934592)
   weight-fits m = let c = is-pair m .0 in (c .near-low, c .near-high)
 
-  pub run-given : b .weight ≢ 0 → (z : ℤ) → LoweredOf (b .weight + 8589934592 - lift) z → Gives (Runs (λ l. l ≤ bound) s marks n) (found (entry (b .low) (b .high) (b .length - lift) z))
+  pub run-given : b .weight ≢ 0 → (z : ℤ) → LoweredOf (b .weight + 8589934592 - lift) z
+      → Gives (Runs (λ l. l ≤ bound) s marks n) (found (entry (b .low) (b .high) (b .length - lift) z))
   run-given m z lo = record { run = e; heaviest = record { one = passes; best = best }; is = refl }
     where
       e : Entry
@@ -72,14 +83,27 @@ module _ (s marks : List ℕ) {n bound : ℕ} (net : Net s n) {b : Best} (h : Be
       heavy : Diff (b .weight) lift z
       heavy = same (omega (arith, c .near-low)) (lo .back (omega (arith, c .near-high)))
 
-      path : {k : ℕ} {w : ℤ} → b .length - lift ≡ k → z ≡ w → PathOf s marks n (b .low) (b .high) k w → PathOf s marks n (b .low) (b .high) (b .length - lift) z
+      path : {k : ℕ} {w : ℤ} → b .length - lift ≡ k → z ≡ w → PathOf s marks n (b .low) (b .high) k w
+          → PathOf s marks n (b .low) (b .high) (b .length - lift) z
       path i j p = rw (i, j) p
 
       passes : Runs (λ l. l ≤ bound) s marks n e
-      passes = record { pair = c .lower; node = c .fits; path = path (omega (arith, c .length)) (diff-only heavy (c .weight)) (c .value); short = omega (arith, is-pair m .1); heavy = tt }
+      passes =
+          record {
+            pair = c .lower;
+            node = c .fits;
+            path = path (omega (arith, c .length)) (diff-only heavy (c .weight)) (c .value);
+            short = omega (arith, is-pair m .1);
+            heavy = tt;
+          }
 
       best : (f : Entry) → Runs (λ l. l ≤ bound) s marks n f → AtLeast e f
-      best f p = record { weight = order-back (t .weight) heavy (omega (arith, o .weight)); length = λ q. omega (arith, t .length, o .length (omega (arith, level q))); pair = λ q r. later q r }
+      best f p =
+          record {
+            weight = order-back (t .weight) heavy (omega (arith, o .weight));
+            length = λ q. omega (arith, t .length, o .length (omega (arith, level q)));
+            pair = λ q r. later q r;
+          }
         where
           t : Beaten f
           t = beaten f p
@@ -91,5 +115,11 @@ module _ (s marks : List ℕ) {n bound : ℕ} (net : Net s n) {b : Best} (h : Be
           level q = lift-only (equally (sym q) (t .weight)) heavy
 
           later : f .weight ≡ z → f .length ≡ b .length - lift → ¬ Before f e
-          later q r (first i) = omega (arith, t .low, o .low (omega (arith, level q)) (omega (arith, t .length, c .length)))
-          later q r (second i j) = omega (arith, t .high, o .high (omega (arith, level q)) (omega (arith, t .length, c .length)) (omega (arith, t .low)))
+          later q r (first i) =
+              omega (arith, t .low, o .low (omega (arith, level q)) (omega (arith, t .length, c .length)))
+          later q r (second i j) =
+              omega (
+                arith,
+                t .high,
+                o .high (omega (arith, level q)) (omega (arith, t .length, c .length)) (omega (arith, t .low)),
+              )

@@ -1,4 +1,5 @@
--- The listing's promise allows one outcome, under any length test, and an outcome is that of one answer; and an outcome without a number is a page of an accepted net.
+-- The listing's promise allows one outcome, under any length test, and an outcome is that of one answer; and an outcome
+-- without a number is a page of an accepted net.
 use Prim.Native.Nat.{ℕ}
 use mathlib.Core.Path.{_≡_, sym, ap, _∙_}
 use mathlib.Core.Bool.{cond}
@@ -27,25 +28,36 @@ lists-only P low high old x y a b =
     let t : x .refused ≡ y .refused = a .taken ∙ sym (b .taken) in
     λ i. record { refused = t i; number = n i; row = r i; written = e .0 i; left = e .1 i; bytes = e .2 i }
 
-pub listing-within-only : (Within : ℕ → Type 0) (s marks : List ℕ) (floor : ℤ) (low high : ℕ) (old : List ℕ) → Only (ListingWithin Within s marks floor low high old)
-listing-within-only Within s marks floor low high old = begins-only (refusal old) s (unless-only (unless-only (lists-only _ low high old)))
+pub listing-within-only : (Within : ℕ → Type 0) (s marks : List ℕ) (floor : ℤ) (low high : ℕ) (old : List ℕ)
+    → Only (ListingWithin Within s marks floor low high old)
+listing-within-only Within s marks floor low high old =
+    begins-only (refusal old) s (unless-only (unless-only (lists-only _ low high old)))
 
-pub listing-only : (s marks : List ℕ) (floor : ℤ) (low high : ℕ) (old : List ℕ) → Only (ListingOf s marks floor low high old)
+pub listing-only : (s marks : List ℕ) (floor : ℤ) (low high : ℕ) (old : List ℕ)
+    → Only (ListingOf s marks floor low high old)
 listing-only s = listing-within-only _ s
 
 -- so the promise determines the answer itself: an outcome is that of one answer
 pub listed-one : (x y : Listed) (l m : List ℕ) → outcome x l ≡ outcome y m → x ≡ y
 listed-one (Rows a b) (Rows c d) l m e = λ i. Rows (e i .written) (e i .left)
-listed-one (Rows a b) (Refused w) l m e = let f : _≡_ {A = ℕ} 0 1 = ap (λ (o : Outcome). cond (o .refused) 1 0) e in absurd (omega (arith, f))
-listed-one (Refused w) (Rows a b) l m e = let f : _≡_ {A = ℕ} 1 0 = ap (λ (o : Outcome). cond (o .refused) 1 0) e in absurd (omega (arith, f))
+listed-one (Rows a b) (Refused w) l m e =
+    let f : _≡_ {A = ℕ} 0 1 = ap (λ (o : Outcome). cond (o .refused) 1 0) e in
+    absurd (omega (arith, f))
+listed-one (Refused w) (Rows a b) l m e =
+    let f : _≡_ {A = ℕ} 1 0 = ap (λ (o : Outcome). cond (o .refused) 1 0) e in
+    absurd (omega (arith, f))
 listed-one (Refused w) (Refused v) l m e = λ i. Refused (record { number = e i .number; row = e i .row })
 
 -- what a call that is not refused gives
-module _ (Within : ℕ → Type 0) (s marks : List ℕ) (floor : ℤ) (low high : ℕ) (old : List ℕ) (x : Outcome) (z : x .number ≡ 0) where
+module _ (Within : ℕ → Type 0) (s marks : List ℕ) (floor : ℤ) (low high : ℕ) (old : List ℕ) (x : Outcome)
+    (z : x .number ≡ 0) where
   plain : (k r : ℕ) → (k ≡ 0 → ⊥) → refusal old k r ≡ x → ⊥
   plain k r m e = m (ap (λ (o : Outcome). o .number) e ∙ z)
 
-  pub listing-page : ListingWithin Within s marks floor low high old x → Net s (nodesOf s) × Paged (Qualifies (PathOf s marks (nodesOf s)) Within floor (nodesOf s)) low high old (x .written) (x .left) (x .bytes)
+  pub listing-page : ListingWithin Within s marks floor low high old x
+      → Net s (nodesOf s)
+      × Paged (Qualifies (PathOf s marks (nodesOf s)) Within floor (nodesOf s)) low high old (x .written) (x .left)
+      (x .bytes)
   listing-page p =
       let n = begins-past (refusal old) s plain p in
       (n .0, past (plain 17 0 (λ e. omega arith)) (past (plain 13 0 (λ e. omega arith)) (n .1) .1) .1 .page)

@@ -15,7 +15,8 @@ use Rattle.answers.specs.PathOf.{PathOf}
 use Rattle.answers.specs.declared.Listed.{Listed}
 use Rattle.answers.specs.declared.Listed.the-variants.{Rows, Refused}
 
--- all that a call leaves: whether it was refused, the paper's number and row, rows written and left over, and the lent bytes
+-- all that a call leaves: whether it was refused, the paper's number and row, rows written and left over, and the lent
+-- bytes
 pub record Outcome : Type 0 where
   pub refused : Bool
   pub number : ℕ
@@ -48,7 +49,8 @@ Goes Within s n marks floor low high old =
 
 -- the whole promise, under any length test; and the listing's own: at most B
 abbrev pub ListingWithin : (ℕ → Type 0) → List ℕ → List ℕ → ℤ → ℕ → ℕ → List ℕ → Outcome → Type 0
-ListingWithin Within s marks floor low high old = Begins Outcome (refusal old) s (Goes Within s (nodesOf s) marks floor low high old)
+ListingWithin Within s marks floor low high old =
+    Begins Outcome (refusal old) s (Goes Within s (nodesOf s) marks floor low high old)
 
 abbrev pub ListingOf : List ℕ → List ℕ → ℤ → ℕ → ℕ → List ℕ → Outcome → Type 0
 ListingOf s = ListingWithin (λ l. l ≤ boundOf s) s

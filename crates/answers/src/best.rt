@@ -1,4 +1,5 @@
-// The operation heaviest: of the pairs within the bound the one of greatest weight; among equals the shorter, then the earlier pair.
+// The operation heaviest: of the pairs within the bound the one of greatest weight; among equals the shorter, then the
+// earlier pair.
 ghost use Prim.Native.Nat.{_≤_};
 ghost use Rattle.tree.specs.Net.{Net};
 ghost use Rattle.places.specs.BestPair.{BestPair};

@@ -20,9 +20,11 @@ pub enum Listed {
     Refused(Refusal),
 }
 
-// The pairs strictly after (low, high), within the bound and weighing at least the floor: as many rows of 16 bytes as fit.
+// The pairs strictly after (low, high), within the bound and weighing at least the floor: as many rows of 16 bytes as
+// fit.
 pub fn listing(s: &[u8], marks: &[u16], floor: i64, low: u16, high: u16, rows: &mut [u8]) -> Listed
-    ensures { λ r. ⌜ ListingOf (now (s .entry)) (now (marks .entry)) floor low high (now (rows .entry)) (outcome r (now (rows .exit))) ⌝ }
+    ensures { λ r. ⌜ ListingOf (now (s .entry)) (now (marks .entry)) floor low high (now (rows .entry))
+        (outcome r (now (rows .exit))) ⌝ }
 {
     let o = tree::accept(s);
     match o {
@@ -52,7 +54,8 @@ fn go_on(
     rows: &mut [u8],
 ) -> Listed
     requires { ⌜ Net (now s) nodes ⌝ }
-    ensures { λ r. ⌜ Goes (λ l. l ≤ bound) (now (s .entry)) nodes (now (marks .entry)) floor low high (now (rows .entry)) (outcome r (now (rows .exit))) ⌝ }
+    ensures { λ r. ⌜ Goes (λ l. l ≤ bound) (now (s .entry)) nodes (now (marks .entry)) floor low high
+        (now (rows .entry)) (outcome r (now (rows .exit))) ⌝ }
 {
     let n = arrays::wide(nodes);
     if marks.len() != n - 1 {

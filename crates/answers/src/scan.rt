@@ -1,4 +1,5 @@
-// The scan of an accepted net: for each first node from the start's on, the paths to all nodes, and of the second nodes those that pass.
+// The scan of an accepted net: for each first node from the start's on, the paths to all nodes, and of the second nodes
+// those that pass.
 ghost use Prim.Native.Nat.{_≤_};
 ghost use Rattle.tree.specs.Net.{Net};
 ghost use Rattle.pages.specs.Passes.{Qualifies};
@@ -24,7 +25,10 @@ fn firsts(
     rows: &mut [u8],
 ) -> Count
     requires { ⌜ Ground n (now parent) (now order) (now place) (now bl) (now bw) ⌝ }
-    ensures { λ r. ⌜ ((g : Ground n (now (parent .entry)) (now (order .entry)) (now (place .entry)) (now (bl .entry)) (now (bw .entry))) → Paged (Qualifies (ValueIn g) (λ l. l ≤ bound) floor n) low high (now (rows .entry)) (r .given) (r .left) (now (rows .exit))) ⌝ }
+    ensures { λ r. ⌜ ((g : Ground n (now (parent .entry)) (now (order .entry)) (now (place .entry)) (now (bl .entry))
+        (now (bw .entry)))
+        → Paged (Qualifies (ValueIn g) (λ l. l ≤ bound) floor n) low high (now (rows .entry)) (r .given) (r .left)
+        (now (rows .exit))) ⌝ }
 {
     let mut above: [u16; 4096] = [0; 4096];
     let mut len: [u64; 4096] = [0; 4096];
@@ -65,7 +69,8 @@ pub(crate) fn page(
     rows: &mut [u8],
 ) -> Count
     requires { ⌜ Net (now s) nodes ⌝ }
-    ensures { λ r. ⌜ Paged (Qualifies (PathOf (now (s .entry)) (now (marks .entry)) nodes) (λ l. l ≤ bound) floor nodes) low high (now (rows .entry)) (r .given) (r .left) (now (rows .exit)) ⌝ }
+    ensures { λ r. ⌜ Paged (Qualifies (PathOf (now (s .entry)) (now (marks .entry)) nodes) (λ l. l ≤ bound) floor nodes)
+        low high (now (rows .entry)) (r .given) (r .left) (now (rows .exit)) ⌝ }
 {
     let mut parent: [u16; 4096] = [4096; 4096];
     let mut order: [u16; 4096] = [0; 4096];

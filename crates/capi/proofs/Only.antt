@@ -11,7 +11,22 @@ use Rattle.answers.proofs.PairOnly.{pair-only}
 use Rattle.answers.proofs.HeaviestOnly.{heaviest-only}
 use Rattle.answers.proofs.ListingOnly.{listing-only}
 use Rattle.capi.specs.Call.{Call, Shows}
-use Rattle.capi.specs.Shown.{acceptance, pair, heaviest, heads, listing, change, AcceptCall, PairCall, HeaviestCall, HeadsCall, ListingCall, ClaimCall, CommitCall, AbortCall}
+use Rattle.capi.specs.Shown.{
+  acceptance,
+  pair,
+  heaviest,
+  heads,
+  listing,
+  change,
+  AcceptCall,
+  PairCall,
+  HeaviestCall,
+  HeadsCall,
+  ListingCall,
+  ClaimCall,
+  CommitCall,
+  AbortCall,
+}
 
 shows-only : {O : Type 0} {Promise : O → Type 0} (inC : O → Call) → Only Promise → Only (Shows Promise inC)
 shows-only inC o x y p q = p .shown ∙ ap inC (o (p .outcome) (q .outcome) (p .promise) (q .promise)) ∙ sym (q .shown)
@@ -28,7 +43,8 @@ hb-heaviest-only s marks = shows-only heaviest (heaviest-only s marks)
 pub hb-heads-only : (s before : List ℕ) → Only (HeadsCall s before)
 hb-heads-only s before = shows-only heads (heads-only s before)
 
-pub hb-listing-only : (s marks : List ℕ) (floor : ℤ) (low high : ℕ) (old : List ℕ) → Only (ListingCall s marks floor low high old)
+pub hb-listing-only : (s marks : List ℕ) (floor : ℤ) (low high : ℕ) (old : List ℕ)
+    → Only (ListingCall s marks floor low high old)
 hb-listing-only s marks floor low high old = shows-only listing (listing-only s marks floor low high old)
 
 pub hb-claim-only : (s before : List ℕ) (run a b : ℕ) → Only (ClaimCall s before run a b)

@@ -1,4 +1,5 @@
--- Each operation's outcome in C, and each C function's promise: it shows an outcome that the operation's own promise allows.
+-- Each operation's outcome in C, and each C function's promise: it shows an outcome that the operation's own promise
+-- allows.
 use Prim.Native.Nat.{ℕ}
 use mathlib.Core.List.{List, []}
 use lib.IntN.{ℤ, pos}
@@ -22,7 +23,8 @@ pair o = call (o .number) (eight (o .number) (o .row) (pos (o .length)) (o .weig
 
 -- low, high, length, weight
 abbrev pub heaviest : B.Outcome → Call
-heaviest o = call (o .number) (eight (o .number) (o .row) (pos (o .low)) (pos (o .high)) (pos (o .length)) (o .weight)) []
+heaviest o =
+    call (o .number) (eight (o .number) (o .row) (pos (o .low)) (pos (o .high)) (pos (o .length)) (o .weight)) []
 
 -- no fields; the heads
 abbrev pub heads : H.Outcome → Call

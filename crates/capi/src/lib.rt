@@ -1,10 +1,20 @@
-// The operations for C and Rust; include/hourbench.h declares them. A `&[u8]` is a pointer and a length to C, an `&mut [i64; 8]` a pointer.
-// Each function returns the refusal number (0: none) and writes all 8 of `answer`: number, row, 0 (reserved), the operation's fields in order, zeros.
+// The operations for C and Rust; include/hourbench.h declares them. A `&[u8]` is a pointer and a length to C, an `&mut
+// [i64; 8]` a pointer. Each function returns the refusal number (0: none) and writes all 8 of `answer`: number, row, 0
+// (reserved), the operation's fields in order, zeros.
 mod answer;
 
 ghost use mathlib.Core.List.{[]};
 ghost use Rattle.capi.specs.Call.{call};
-ghost use Rattle.capi.specs.Shown.{AcceptCall, PairCall, HeaviestCall, HeadsCall, ListingCall, ClaimCall, CommitCall, AbortCall};
+ghost use Rattle.capi.specs.Shown.{
+  AcceptCall,
+  PairCall,
+  HeaviestCall,
+  HeadsCall,
+  ListingCall,
+  ClaimCall,
+  CommitCall,
+  AbortCall,
+};
 use answer::fill;
 use answer::show_change;
 use answer::signed;
@@ -75,7 +85,8 @@ pub extern "C" fn hb_heaviest(table: &[u8], marks: &[u16], answer: &mut [i64; 8]
 // No fields; each node's head into `heads`.
 #[no_mangle]
 pub extern "C" fn hb_heads(table: &[u8], heads: &mut [u16], answer: &mut [i64; 8]) -> u8
-    ensures { λ r. ⌜ HeadsCall (now (table .entry)) (now (heads .entry)) (call r (now (answer .exit)) (now (heads .exit))) ⌝ }
+    ensures { λ r. ⌜ HeadsCall (now (table .entry)) (now (heads .entry))
+        (call r (now (answer .exit)) (now (heads .exit))) ⌝ }
 {
     let o = spines::heads(table, heads);
     match o {
@@ -95,7 +106,8 @@ pub extern "C" fn hb_listing(
     rows: &mut [u8],
     answer: &mut [i64; 8],
 ) -> u8
-    ensures { λ r. ⌜ ListingCall (now (table .entry)) (now (marks .entry)) floor low high (now (rows .entry)) (call r (now (answer .exit)) (now (rows .exit))) ⌝ }
+    ensures { λ r. ⌜ ListingCall (now (table .entry)) (now (marks .entry)) floor low high (now (rows .entry))
+        (call r (now (answer .exit)) (now (rows .exit))) ⌝ }
 {
     let o = answers::listing(table, marks, floor, low, high, rows);
     match o {
@@ -118,7 +130,8 @@ pub extern "C" fn hb_claim(
     b: u16,
     answer: &mut [i64; 8],
 ) -> u8
-    ensures { λ r. ⌜ ClaimCall (now (table .entry)) (now (marks .entry)) run a b (call r (now (answer .exit)) (now (marks .exit))) ⌝ }
+    ensures { λ r. ⌜ ClaimCall (now (table .entry)) (now (marks .entry)) run a b
+        (call r (now (answer .exit)) (now (marks .exit))) ⌝ }
 {
     let o = marks::claim(table, marks, run, a, b);
     show_change(o, answer)
@@ -127,7 +140,8 @@ pub extern "C" fn hb_claim(
 // Fields: changed; the marks change in place.
 #[no_mangle]
 pub extern "C" fn hb_commit(table: &[u8], marks: &mut [u16], run: u16, answer: &mut [i64; 8]) -> u8
-    ensures { λ r. ⌜ CommitCall (now (table .entry)) (now (marks .entry)) run (call r (now (answer .exit)) (now (marks .exit))) ⌝ }
+    ensures { λ r. ⌜ CommitCall (now (table .entry)) (now (marks .entry)) run
+        (call r (now (answer .exit)) (now (marks .exit))) ⌝ }
 {
     let o = marks::commit(table, marks, run);
     show_change(o, answer)
@@ -136,7 +150,8 @@ pub extern "C" fn hb_commit(table: &[u8], marks: &mut [u16], run: u16, answer: &
 // Fields: changed; the marks change in place.
 #[no_mangle]
 pub extern "C" fn hb_abort(table: &[u8], marks: &mut [u16], run: u16, answer: &mut [i64; 8]) -> u8
-    ensures { λ r. ⌜ AbortCall (now (table .entry)) (now (marks .entry)) run (call r (now (answer .exit)) (now (marks .exit))) ⌝ }
+    ensures { λ r. ⌜ AbortCall (now (table .entry)) (now (marks .entry)) run
+        (call r (now (answer .exit)) (now (marks .exit))) ⌝ }
 {
     let o = marks::abort(table, marks, run);
     show_change(o, answer)

@@ -1,5 +1,6 @@
--- The best pair across two runs. `Sofar` grows by a place, `Going` is how far all is within the limit, `Sweep` is the invariant of `join`'s loop:
--- the places of up from i to m are done, those of down from m to j are passed, and what was passed stays within the limit for all that is still to come.
+-- The best pair across two runs. `Sofar` grows by a place, `Going` is how far all is within the limit, `Sweep` is the
+-- invariant of `join`'s loop: the places of up from i to m are done, those of down from m to j are passed, and what was
+-- passed stays within the limit for all that is still to come.
 use Prim.Native.Nat.{ℕ, _+_, _-_, _≤_, _<_, min, max}
 use mathlib.Core.Path.{_≡_, refl, sym, ap, _∙_}
 use mathlib.Core.Logic.{_⊎_, inl, inr}
@@ -16,9 +17,17 @@ use Rattle.lists.proofs.Order.{le-refl, le-trans, better-trans, tie}
 
 module _ (name d w down : List ℕ) (m e : ℕ) where
   pub sofar-none : (node : ℕ) → m ≤ e → node < 4096 → Sofar name d w down m e m node
-  sofar-none node a b = record { low = omega arith; high = a; small = b; there = λ h. absurd (omega arith); best = λ p x y. absurd (omega arith) }
+  sofar-none node a b =
+      record {
+        low = omega arith;
+        high = a;
+        small = b;
+        there = λ h. absurd (omega arith);
+        best = λ p x y. absurd (omega arith);
+      }
 
-  pub sofar-more : (j node y r : ℕ) → Sofar name d w down m e j node → j < e → y ≡ at down j → y < 4096 → Preferred name d w m j node y r → Sofar name d w down m e (j + 1) r
+  pub sofar-more : (j node y r : ℕ) → Sofar name d w down m e j node → j < e → y ≡ at down j → y < 4096
+      → Preferred name d w m j node y r → Sofar name d w down m e (j + 1) r
   sofar-more j node y r h b q n f = record {
     low = omega (arith, h .low);
     high = omega arith;
@@ -80,19 +89,26 @@ module _ (name ku wu d w up down : List ℕ) (s m e limit : ℕ) (old : Best) wh
   }
 
   pub sweep-more : (i x j node : ℕ) (best : Best) (j′ node′ : ℕ) (new : Best) → Sweep (i + 1) j node best
-      → Sorted (By ku) up s m → Sorted (By d) down m e → s ≤ i
-      → x ≡ at up i → Sofar name d w down m e j′ node′ → Advanced d down e (at ku x) limit j j′ → Tried name ku wu d w m j′ x node′ best new → Sweep i j′ node′ new
-  sweep-more i x j node best j′ node′ new h us ds b q f a o = record {
-    low = b;
-    high = omega (arith, h .high);
-    joined = record {
-      keeps = le-trans (h .joined .keeps) keeps;
-      beats = λ k l h₁ h₂ h₃ h₄ h₅. beats k l h₁ h₂ h₃ h₄ h₅ (ℕ-discrete k i);
-      comes = comes (decLt m j′);
-    };
-    sofar = f;
-    below = λ p k h₁ h₂ h₃ h₄. omega (arith, here p h₁ h₂, us .rise k i h₃ (omega arith) (omega (arith, h .high)) .le, ap (λ z. at ku z) q);
-  }
+      → Sorted (By ku) up s m → Sorted (By d) down m e → s ≤ i → x ≡ at up i → Sofar name d w down m e j′ node′
+      → Advanced d down e (at ku x) limit j j′ → Tried name ku wu d w m j′ x node′ best new → Sweep i j′ node′ new
+  sweep-more i x j node best j′ node′ new h us ds b q f a o =
+      record {
+        low = b;
+        high = omega (arith, h .high);
+        joined = record {
+          keeps = le-trans (h .joined .keeps) keeps;
+          beats = λ k l h₁ h₂ h₃ h₄ h₅. beats k l h₁ h₂ h₃ h₄ h₅ (ℕ-discrete k i);
+          comes = comes (decLt m j′);
+        };
+        sofar = f;
+        below =
+            λ p k h₁ h₂ h₃ h₄. omega (
+              arith,
+              here p h₁ h₂,
+              us .rise k i h₃ (omega arith) (omega (arith, h .high)) .le,
+              ap (λ z. at ku z) q,
+            );
+      }
     where
       here : (p : ℕ) → m ≤ p → p < j′ → at ku x + at d (at down p) ≤ limit
       here p h₁ h₂ = pick (decLt p j)
@@ -108,20 +124,35 @@ module _ (name ku wu d w up down : List ℕ) (s m e limit : ℕ) (old : Best) wh
           pick (yes u) = o .offered u .keeps
           pick (no u) = rw (o .none (omega arith)) (le-refl best)
 
-      beats : (k l : ℕ) → i ≤ k → k < m → m ≤ l → l < e → at ku (at up k) + at d (at down l) ≤ limit → Dec (k ≡ i) → Le (pair name ku wu d w (at up k) (at down l)) new
+      beats : (k l : ℕ) → i ≤ k → k < m → m ≤ l → l < e → at ku (at up k) + at d (at down l) ≤ limit → Dec (k ≡ i)
+          → Le (pair name ku wu d w (at up k) (at down l)) new
       beats k l h₁ h₂ h₃ h₄ h₅ (no u) = le-trans (h .joined .beats k l (omega arith) h₂ h₃ h₄ h₅) keeps
       beats k l h₁ h₂ h₃ h₄ h₅ (yes u) = pick (decLt l j′)
         where
           pick : Dec (l < j′) → Le (pair name ku wu d w (at up k) (at down l)) new
-          pick (yes v) = rw (u, ← q) (le-trans (tie name ku wu d w x (at down l) node′ (f .best l h₃ v)) (o .offered (omega arith) .beats))
+          pick (yes v) =
+              rw (u, ← q)
+              (le-trans (tie name ku wu d w x (at down l) node′ (f .best l h₃ v)) (o .offered (omega arith) .beats))
           pick (no v) =
               let h₆ : at ku x + at d (at down l) ≤ limit = rw (q, ← u) h₅ in
               absurd (omega (arith, h₆, a .stop (omega arith), ds .rise j′ l (f .low) (omega arith) h₄ .le))
 
-      wider : {z : Best} → Across name ku wu d w up down (i + 1) m e limit z → Across name ku wu d w up down i m e limit z
-      wider c = record { i = c .i; j = c .j; i-low = omega (arith, c .i-low); i-high = c .i-high; j-low = c .j-low; j-high = c .j-high; short = c .short; is = c .is }
+      wider : {z : Best} → Across name ku wu d w up down (i + 1) m e limit z
+          → Across name ku wu d w up down i m e limit z
+      wider c =
+          record {
+            i = c .i;
+            j = c .j;
+            i-low = omega (arith, c .i-low);
+            i-high = c .i-high;
+            j-low = c .j-low;
+            j-high = c .j-high;
+            short = c .short;
+            is = c .is;
+          }
 
-      same : {z : Best} → z ≡ best → (best ≡ old) ⊎ Across name ku wu d w up down (i + 1) m e limit best → (z ≡ old) ⊎ Across name ku wu d w up down i m e limit z
+      same : {z : Best} → z ≡ best → (best ≡ old) ⊎ Across name ku wu d w up down (i + 1) m e limit best
+          → (z ≡ old) ⊎ Across name ku wu d w up down i m e limit z
       same u (inl v) = inl (u ∙ v)
       same u (inr v) = rw u (inr (wider v))
 
@@ -129,7 +160,8 @@ module _ (name ku wu d w up down : List ℕ) (s m e limit : ℕ) (old : Best) wh
       comes (no u) = same (o .none (omega arith)) (h .joined .comes)
       comes (yes u) = pick (o .offered u .comes) (f .there u)
         where
-          pick : (new ≡ best) ⊎ (new ≡ pair name ku wu d w x node′) → In down m j′ node′ → (new ≡ old) ⊎ Across name ku wu d w up down i m e limit new
+          pick : (new ≡ best) ⊎ (new ≡ pair name ku wu d w x node′) → In down m j′ node′
+              → (new ≡ old) ⊎ Across name ku wu d w up down i m e limit new
           pick (inl v) n = same v (h .joined .comes)
           pick (inr v) n = inr (record {
             i = i;
@@ -142,16 +174,20 @@ module _ (name ku wu d w up down : List ℕ) (s m e limit : ℕ) (old : Best) wh
             is = rw (← q, n .is) v;
           })
 
-  pub sweep-back : (i x j node : ℕ) (best : Best) (j′ node′ : ℕ) (new : Best) → Sweep i j node best → Joinable ku wu d w up down s m e → s < i
-      → x ≡ at up (i - 1) → Sofar name d w down m e j′ node′ → Advanced d down e (at ku x) limit j j′ → Tried name ku wu d w m j′ x node′ best new → Sweep (i - 1) j′ node′ new
+  pub sweep-back : (i x j node : ℕ) (best : Best) (j′ node′ : ℕ) (new : Best) → Sweep i j node best
+      → Joinable ku wu d w up down s m e → s < i → x ≡ at up (i - 1) → Sofar name d w down m e j′ node′
+      → Advanced d down e (at ku x) limit j j′ → Tried name ku wu d w m j′ x node′ best new → Sweep (i - 1) j′ node′ new
   sweep-back i x j node best j′ node′ new h g b q f a o =
       let k : (i - 1) + 1 ≡ i = omega arith in
       sweep-more (i - 1) x j node best j′ node′ new (rw k h) (g .up-sorted) (g .down-sorted) (omega arith) q f a o
 
-  pub sweep-node : (i x j node : ℕ) (best : Best) → Sweep i j node best → Joinable ku wu d w up down s m e → s < i → x ≡ at up (i - 1) → x < 4096
-  sweep-node i x j node best h g b q = omega (arith, q, g .up-nodes .node (i - 1) (omega arith) (omega (arith, h .high)))
+  pub sweep-node : (i x j node : ℕ) (best : Best) → Sweep i j node best → Joinable ku wu d w up down s m e → s < i
+      → x ≡ at up (i - 1) → x < 4096
+  sweep-node i x j node best h g b q =
+      omega (arith, q, g .up-nodes .node (i - 1) (omega arith) (omega (arith, h .high)))
 
-  pub sweep-all : (i j node : ℕ) (best : Best) → Sweep i j node best → i ≤ s → Joined name ku wu d w up down s m e limit old best
+  pub sweep-all : (i j node : ℕ) (best : Best) → Sweep i j node best → i ≤ s
+      → Joined name ku wu d w up down s m e limit old best
   sweep-all i j node best h b = let k : s ≡ i = omega (arith, h .low) in rw k (h .joined)
 
 module _ (name ku wu d w : List ℕ) (m j x y : ℕ) (old : Best) where
@@ -159,13 +195,15 @@ module _ (name ku wu d w : List ℕ) (m j x y : ℕ) (old : Best) where
   tried-none h = record { offered = λ n. absurd (omega arith); none = λ _. refl }
 
   module _ (new : Best) (less : m < j) where
-    pub tried-low : (a b : ℕ) → a ≡ at name x → b ≡ at name y → a < b → Offered old (best4 (at wu x + at w y) (at ku x + at d y) a b) new → Tried name ku wu d w m j x y old new
+    pub tried-low : (a b : ℕ) → a ≡ at name x → b ≡ at name y → a < b
+        → Offered old (best4 (at wu x + at w y) (at ku x + at d y) a b) new → Tried name ku wu d w m j x y old new
     tried-low a b u v h o =
         let p : min (at name x) (at name y) ≡ a = omega arith in
         let q : max (at name x) (at name y) ≡ b = omega arith in
         record { offered = λ _. rw (p, q) o; none = λ n. absurd (omega arith) }
 
-    pub tried-high : (a b : ℕ) → a ≡ at name x → b ≡ at name y → b ≤ a → Offered old (best4 (at wu x + at w y) (at ku x + at d y) b a) new → Tried name ku wu d w m j x y old new
+    pub tried-high : (a b : ℕ) → a ≡ at name x → b ≡ at name y → b ≤ a
+        → Offered old (best4 (at wu x + at w y) (at ku x + at d y) b a) new → Tried name ku wu d w m j x y old new
     tried-high a b u v h o =
         let p : min (at name x) (at name y) ≡ b = omega arith in
         let q : max (at name x) (at name y) ≡ a = omega arith in

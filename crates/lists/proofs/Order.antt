@@ -1,4 +1,5 @@
--- "At least as good" is an order of pairs, and of partners; the better of two is kept or taken; for one place a better partner makes a better pair.
+-- "At least as good" is an order of pairs, and of partners; the better of two is kept or taken; for one place a better
+-- partner makes a better pair.
 use Prim.Native.Nat.{ℕ, _≤_, _<_}
 use mathlib.Core.Path.{_≡_, refl}
 use mathlib.Core.Logic.{inl, inr}
@@ -53,16 +54,20 @@ better-trans {name} {d} {w} {x} {y} {z} p q = record {
         omega (arith, p .node a (omega arith), q .node a′ (omega arith))
 
 pub preferred-first : (name d w : List ℕ) (m j old new : ℕ) → j ≤ m → Preferred name d w m j old new new
-preferred-first name d w m j old new h = record { keeps = λ n. absurd (omega arith); beats = better-refl name d w new; comes = inl refl }
+preferred-first name d w m j old new h =
+    record { keeps = λ n. absurd (omega arith); beats = better-refl name d w new; comes = inl refl }
 
-pub preferred-old : (name d w : List ℕ) (m j old new : ℕ) → m < j → Better name d w new old → Preferred name d w m j old new old
-preferred-old name d w m j old new b h = record { keeps = λ n. better-refl name d w old; beats = h; comes = inr (b, refl) }
+pub preferred-old : (name d w : List ℕ) (m j old new : ℕ) → m < j → Better name d w new old
+    → Preferred name d w m j old new old
+preferred-old name d w m j old new b h =
+    record { keeps = λ n. better-refl name d w old; beats = h; comes = inr (b, refl) }
 
 pub preferred-new : (name d w : List ℕ) (m j old new : ℕ) → Better name d w old new → Preferred name d w m j old new new
 preferred-new name d w m j old new h = record { keeps = λ n. h; beats = better-refl name d w new; comes = inl refl }
 
 -- For one x a better partner is a better pair: an earlier node is an earlier pair
-pub tie : (name ku wu d w : List ℕ) (x p q : ℕ) → Better name d w p q → Le (pair name ku wu d w x p) (pair name ku wu d w x q)
+pub tie : (name ku wu d w : List ℕ) (x p q : ℕ) → Better name d w p q
+    → Le (pair name ku wu d w x p) (pair name ku wu d w x q)
 tie name ku wu d w x p q h = record {
   weight = omega (arith, h .weight);
   length = λ a. omega (arith, h .near (omega arith));
@@ -76,5 +81,9 @@ le-antisym x y p q =
     let a : x .weight ≡ y .weight = omega (arith, p .weight, q .weight) in
     let b : x .length ≡ y .length = omega (arith, p .length (omega arith), q .length (omega arith)) in
     let c : x .low ≡ y .low = omega (arith, p .low (omega arith) (omega arith), q .low (omega arith) (omega arith)) in
-    let d : x .high ≡ y .high = omega (arith, p .high (omega arith) (omega arith) (omega arith), q .high (omega arith) (omega arith) (omega arith)) in
+    let d : x .high ≡ y .high = omega (
+      arith,
+      p .high (omega arith) (omega arith) (omega arith),
+      q .high (omega arith) (omega arith) (omega arith),
+    ) in
     λ i. record { weight = a i; length = b i; low = c i; high = d i }

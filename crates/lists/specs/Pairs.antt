@@ -30,7 +30,8 @@ pub record Given (ku wu d w : List ℕ) : Type 0 where
 
 -- the pair of x and y: weight and length are sums, the lower name first
 abbrev pub pair : List ℕ → List ℕ → List ℕ → List ℕ → List ℕ → ℕ → ℕ → Best
-pair name ku wu d w x y = best4 (at wu x + at w y) (at ku x + at d y) (min (at name x) (at name y)) (max (at name x) (at name y))
+pair name ku wu d w x y =
+    best4 (at wu x + at w y) (at ku x + at d y) (min (at name x) (at name y)) (max (at name x) (at name y))
 
 -- what joining asks: up's run from s to m is sorted by ku, down's from m to e by d
 pub record Joinable (ku wu d w up down : List ℕ) (s m e : ℕ) : Type 0 where
@@ -57,5 +58,6 @@ pub record Across (name ku wu d w up down : List ℕ) (s m e limit : ℕ) (new :
 -- the new best keeps the old, beats every pair across within the limit, and is one of these
 pub record Joined (name ku wu d w up down : List ℕ) (s m e limit : ℕ) (old new : Best) : Type 0 where
   pub keeps : Le old new
-  pub beats : (i j : ℕ) → s ≤ i → i < m → m ≤ j → j < e → at ku (at up i) + at d (at down j) ≤ limit → Le (pair name ku wu d w (at up i) (at down j)) new
+  pub beats : (i j : ℕ) → s ≤ i → i < m → m ≤ j → j < e → at ku (at up i) + at d (at down j) ≤ limit
+      → Le (pair name ku wu d w (at up i) (at down j)) new
   pub comes : (new ≡ old) ⊎ Across name ku wu d w up down s m e limit new

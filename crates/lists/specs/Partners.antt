@@ -1,4 +1,5 @@
--- Working statements of the private functions of `join` (offer, prefer, advance, try_pair), and no part of the promises.
+-- Working statements of the private functions of `join` (offer, prefer, advance, try_pair), and no part of the
+-- promises.
 use Prim.Native.Nat.{ℕ, _+_, _^_, _≤_, _<_}
 use mathlib.Core.Path.{_≡_}
 use mathlib.Core.Logic.{_⊎_}

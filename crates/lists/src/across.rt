@@ -1,4 +1,5 @@
-// The best pair of places, one from each of two runs: going down the one and up the other, with the best partner that was passed.
+// The best pair of places, one from each of two runs: going down the one and up the other, with the best partner that
+// was passed.
 ghost use Prim.Native.Nat.{_<_};
 ghost use Rattle.lists.specs.Pairs.{best4, Given, Joinable, Joined};
 ghost use Rattle.lists.specs.Partners.{Offered, Preferred, Walkable, Sofar, Advanced, Tried};
@@ -48,7 +49,8 @@ fn offer(best: Best, weight: u64, length: u64, low: usize, high: usize) -> Best
     }
 }
 
-// The better partner of the two: greater weight, then nearer, then the lower name. Before the first (j is m) it is the new one.
+// The better partner of the two: greater weight, then nearer, then the lower name. Before the first (j is m) it is the
+// new one.
 fn prefer(
     name: &[u16; 4096],
     d: &[u64; 4096],
@@ -94,7 +96,8 @@ fn advance(
 ) -> Partner
     requires { ⌜ Walkable (now d) (now down) m e key ⌝ }
     requires { ⌜ Sofar (now name) (now d) (now w) (now down) m e (from .to) (from .node) ⌝ }
-    ensures { λ r. ⌜ Sofar (now (name .entry)) (now (d .entry)) (now (w .entry)) (now (down .entry)) m e (r .to) (r .node) ⌝ }
+    ensures { λ r. ⌜ Sofar (now (name .entry)) (now (d .entry)) (now (w .entry)) (now (down .entry)) m e (r .to)
+        (r .node) ⌝ }
     ensures { λ r. ⌜ Advanced (now (d .entry)) (now (down .entry)) e key limit (from .to) (r .to) ⌝ }
 {
     let mut j = from.to;
@@ -125,7 +128,8 @@ fn try_pair(
 ) -> Best
     requires { ⌜ Given (now ku) (now wu) (now d) (now w) ⌝ }
     requires { ⌜ (x < 4096) × (y < 4096) ⌝ }
-    ensures { λ r. ⌜ Tried (now (name .entry)) (now (ku .entry)) (now (wu .entry)) (now (d .entry)) (now (w .entry)) m j x y best r ⌝ }
+    ensures { λ r. ⌜ Tried (now (name .entry)) (now (ku .entry)) (now (wu .entry)) (now (d .entry)) (now (w .entry)) m j
+        x y best r ⌝ }
 {
     if j <= m {
         return best;
@@ -157,7 +161,8 @@ pub fn join(
     best: Best,
 ) -> Best
     requires { ⌜ Joinable (now ku) (now wu) (now d) (now w) (now up) (now down) s m e ⌝ }
-    ensures { λ r. ⌜ Joined (now (name .entry)) (now (ku .entry)) (now (wu .entry)) (now (d .entry)) (now (w .entry)) (now (up .entry)) (now (down .entry)) s m e limit best r ⌝ }
+    ensures { λ r. ⌜ Joined (now (name .entry)) (now (ku .entry)) (now (wu .entry)) (now (d .entry)) (now (w .entry))
+        (now (up .entry)) (now (down .entry)) s m e limit best r ⌝ }
 {
     let mut all = best;
     let mut j = m;

@@ -21,16 +21,37 @@ decides-false n = record { holds = λ h. absurd (false≢true h); fails = λ _. 
 
 module _ {Within : ℕ → Type 0} {len wt : List ℕ} {u from floor : ℕ} where
   here-up : (v : ℕ) (e : Entry) → Here Within len wt u from floor v e → Here Within len wt u from floor (v + 1) e
-  here-up v e h = record { one = h .one; since = h .since; upto = omega (arith, h .upto); reach = h .reach; load = h .load; short = h .short; heavy = h .heavy }
+  here-up v e h =
+      record {
+        one = h .one;
+        since = h .since;
+        upto = omega (arith, h .upto);
+        reach = h .reach;
+        load = h .load;
+        short = h .short;
+        heavy = h .heavy;
+      }
 
-  here-down : (v : ℕ) (e : Entry) → Here Within len wt u from floor (v + 1) e → Here Within len wt u from floor v e ⊎ (e .high ≡ v)
+  here-down : (v : ℕ) (e : Entry) → Here Within len wt u from floor (v + 1) e
+      → Here Within len wt u from floor v e ⊎ (e .high ≡ v)
   here-down v e h = pick (ℕ-discrete (e .high) v)
     where
       pick : Dec (e .high ≡ v) → Here Within len wt u from floor v e ⊎ (e .high ≡ v)
       pick (yes q) = inr q
-      pick (no q) = inl (record { one = h .one; since = h .since; upto = omega (arith, h .upto); reach = h .reach; load = h .load; short = h .short; heavy = h .heavy })
+      pick (no q) =
+          inl
+          (record {
+            one = h .one;
+            since = h .since;
+            upto = omega (arith, h .upto);
+            reach = h .reach;
+            load = h .load;
+            short = h .short;
+            heavy = h .heavy;
+          })
 
-  here-is : (v : ℕ) (e : Entry) → Here Within len wt u from floor (v + 1) e → e .high ≡ v → e ≡ entry u v (at len v) (lower (at wt v))
+  here-is : (v : ℕ) (e : Entry) → Here Within len wt u from floor (v + 1) e → e .high ≡ v
+      → e ≡ entry u v (at len v) (lower (at wt v))
   here-is v e h q = λ i. record { low = h .one i; high = q i; length = l i; weight = w i }
     where
       l : e .length ≡ at len v
@@ -39,23 +60,36 @@ module _ {Within : ℕ → Type 0} {len wt : List ℕ} {u from floor : ℕ} wher
       w : e .weight ≡ lower (at wt v)
       w = diff-only (rw q at (h .load)) (lower-is (at wt v))
 
-  module _ (v : ℕ) {old mid : List ℕ} {g l g₁ l₁ : ℕ} (r : Grown (Here Within len wt u from floor v) old g l mid g₁ l₁) where
-    here-add : {now : List ℕ} {g₂ l₂ : ℕ} → from ≤ v → Within (at len v) → floor ≤ at wt v → Added (entry u v (at len v) (lower (at wt v))) mid g₁ l₁ now g₂ l₂
+  module _ (v : ℕ) {old mid : List ℕ} {g l g₁ l₁ : ℕ}
+      (r : Grown (Here Within len wt u from floor v) old g l mid g₁ l₁) where
+    here-add : {now : List ℕ} {g₂ l₂ : ℕ} → from ≤ v → Within (at len v) → floor ≤ at wt v
+        → Added (entry u v (at len v) (lower (at wt v))) mid g₁ l₁ now g₂ l₂
         → Grown (Here Within len wt u from floor (v + 1)) old g l now g₂ l₂
-    here-add h p q a = grown-end (entry u v (at len v) (lower (at wt v))) r a
-        (record { one = refl; since = h; upto = omega arith; reach = refl; load = lower-is (at wt v); short = p; heavy = q })
-        (here-up v)
-        (λ x k. second (k .one) (k .upto))
-        (λ x k. pick x k (here-down v x k))
+    here-add h p q a =
+        grown-end (entry u v (at len v) (lower (at wt v))) r a
+        (record {
+          one = refl;
+          since = h;
+          upto = omega arith;
+          reach = refl;
+          load = lower-is (at wt v);
+          short = p;
+          heavy = q;
+        })
+        (here-up v) (λ x k. second (k .one) (k .upto)) (λ x k. pick x k (here-down v x k))
       where
-        pick : (x : Entry) → Here Within len wt u from floor (v + 1) x → Here Within len wt u from floor v x ⊎ (x .high ≡ v) → Here Within len wt u from floor v x ⊎ (x ≡ entry u v (at len v) (lower (at wt v)))
+        pick : (x : Entry) → Here Within len wt u from floor (v + 1) x
+            → Here Within len wt u from floor v x ⊎ (x .high ≡ v)
+            → Here Within len wt u from floor v x ⊎ (x ≡ entry u v (at len v) (lower (at wt v)))
         pick x k (inl d) = inl d
         pick x k (inr q) = inr (here-is v x k q)
 
-    here-skip : (Within (at len v) → floor ≤ at wt v → ⊥) → Grown (Here Within len wt u from floor (v + 1)) old g l mid g₁ l₁
+    here-skip : (Within (at len v) → floor ≤ at wt v → ⊥)
+        → Grown (Here Within len wt u from floor (v + 1)) old g l mid g₁ l₁
     here-skip no-way = grown-iff (here-up v) (λ x k. pick x k (here-down v x k)) r
       where
-        pick : (x : Entry) → Here Within len wt u from floor (v + 1) x → Here Within len wt u from floor v x ⊎ (x .high ≡ v) → Here Within len wt u from floor v x
+        pick : (x : Entry) → Here Within len wt u from floor (v + 1) x
+            → Here Within len wt u from floor v x ⊎ (x .high ≡ v) → Here Within len wt u from floor v x
         pick x k (inl d) = d
         pick x k (inr q) = absurd (no-way (rw q at (k .short)) (rw q at (k .heavy)))
 
@@ -63,21 +97,41 @@ module _ {Within : ℕ → Type 0} {len wt : List ℕ} {u from floor : ℕ} wher
     pub seconds-none : Seconds Within len wt u from floor from old g l old g l
     seconds-none = record { grown = grown-none old g l (λ e h. omega (arith, h .since, h .upto)); few = omega arith }
 
-    module _ (v : ℕ) {mid : List ℕ} {g₁ l₁ : ℕ} (a : Seconds Within len wt u from floor v old g l mid g₁ l₁) (x y : ℕ) (ex : x ≡ at len v) (ey : y ≡ at wt v) where
-      pub seconds-add : {now : List ℕ} {g₂ l₂ : ℕ} → from ≤ v → Within x × (floor ≤ y) → Added (entry u v x (lower y)) mid g₁ l₁ now g₂ l₂ → Seconds Within len wt u from floor (v + 1) old g l now g₂ l₂
-      seconds-add h p d = record { grown = here-add v (a .grown) h (rw ex at (p .0)) (rw ey at (p .1)) (rw (ex, ey) at d); few = omega (arith, a .few, d .few) }
+    module _ (v : ℕ) {mid : List ℕ} {g₁ l₁ : ℕ} (a : Seconds Within len wt u from floor v old g l mid g₁ l₁) (x y : ℕ)
+        (ex : x ≡ at len v) (ey : y ≡ at wt v) where
+      pub seconds-add : {now : List ℕ} {g₂ l₂ : ℕ} → from ≤ v → Within x × (floor ≤ y)
+          → Added (entry u v x (lower y)) mid g₁ l₁ now g₂ l₂
+          → Seconds Within len wt u from floor (v + 1) old g l now g₂ l₂
+      seconds-add h p d =
+          record {
+            grown = here-add v (a .grown) h (rw ex at (p .0)) (rw ey at (p .1)) (rw (ex, ey) at d);
+            few = omega (arith, a .few, d .few);
+          }
 
       pub seconds-skip : (Within x × (floor ≤ y) → ⊥) → Seconds Within len wt u from floor (v + 1) old g l mid g₁ l₁
-      seconds-skip no-way = record { grown = here-skip v (a .grown) (λ p q. no-way (rw (← ex) at p, rw (← ey) at q)); few = omega (arith, a .few) }
+      seconds-skip no-way =
+          record {
+            grown = here-skip v (a .grown) (λ p q. no-way (rw (← ex) at p, rw (← ey) at q));
+            few = omega (arith, a .few);
+          }
 
 -- one more than x, at most n: the second node to begin with, where x is the last that makes no pair after the start
-pub starts-next : {s t u n r : ℕ} (x : ℕ) → (x < n → r ≡ x + 1) × (n ≤ x → r ≡ n) → u ≤ x → (u ≡ s → t ≤ x) → ((v : ℕ) → u < v → (u ≡ s → t < v) → x < v) → Starts s t u n r
+pub starts-next : {s t u n r : ℕ} (x : ℕ) → (x < n → r ≡ x + 1) × (n ≤ x → r ≡ n) → u ≤ x → (u ≡ s → t ≤ x)
+    → ((v : ℕ) → u < v → (u ≡ s → t < v) → x < v) → Starts s t u n r
 starts-next {s} {t} {u} {n} {r} x h up since last = pick (decLt x n)
   where
     pick : Dec (x < n) → Starts s t u n r
     pick (yes b) =
         let e = h .0 b in
-        record { within = omega arith; after = λ v c d. (omega arith, λ q. omega (arith, since q)); before = λ v c d q. omega (arith, last v d q) }
+        record {
+          within = omega arith;
+          after = λ v c d. (omega arith, λ q. omega (arith, since q));
+          before = λ v c d q. omega (arith, last v d q);
+        }
     pick (no b) =
         let e = h .1 (omega arith) in
-        record { within = omega arith; after = λ v c d. absurd (omega arith); before = λ v c d q. absurd (omega (arith, last v d q)) }
+        record {
+          within = omega arith;
+          after = λ v c d. absurd (omega arith);
+          before = λ v c d q. absurd (omega (arith, last v d q));
+        }

@@ -1,5 +1,5 @@
--- Working statements of this crate's functions, which no promise of an operation needs: the filling of a page, one first node at a time.
--- A weight is carried lifted: x stands for the signed number x − 2^33.
+-- Working statements of this crate's functions, which no promise of an operation needs: the filling of a page, one
+-- first node at a time. A weight is carried lifted: x stands for the signed number x − 2^33.
 use Prim.Native.Nat.{ℕ, _+_, _*_, _≤_, _<_}
 use mathlib.Core.Path.{_≡_}
 use mathlib.Core.Bool.{Bool, true, false}
@@ -32,7 +32,8 @@ pub record Decides (P : Type 0) (r : Bool) : Type 0 where
   pub holds : r ≡ true → P
   pub fails : r ≡ false → P → ⊥
 
--- a page that is filling: of the entries seen so far the first are written, as many as there is room for, and the others counted
+-- a page that is filling: of the entries seen so far the first are written, as many as there is room for, and the
+-- others counted
 pub record Fills (old : List ℕ) (seen : List Entry) (given left : ℕ) (out : List ℕ) : Type 0 where
   pub room : 16 * given ≤ length old
   pub total : given + left ≡ length seen
@@ -41,7 +42,8 @@ pub record Fills (old : List ℕ) (seen : List Entry) (given left : ℕ) (out : 
 
 -- one entry more: whatever the page had been filled with
 pub record Added (e : Entry) (old : List ℕ) (given left : ℕ) (now : List ℕ) (given₁ left₁ : ℕ) : Type 0 where
-  pub fills : (page : List ℕ) (seen : List Entry) → Fills page seen given left old → Fills page (seen ++ e ∷ []) given₁ left₁ now
+  pub fills : (page : List ℕ) (seen : List Entry) → Fills page seen given left old
+      → Fills page (seen ++ e ∷ []) given₁ left₁ now
   pub same : length now ≡ length old
   pub few : left₁ ≤ left + 1
 
@@ -49,10 +51,12 @@ pub record Added (e : Entry) (old : List ℕ) (given left : ℕ) (now : List ℕ
 pub record Grown (X : Entry → Type 0) (old : List ℕ) (given left : ℕ) (now : List ℕ) (given₁ left₁ : ℕ) : Type 0 where
   pub found : List Entry
   pub all : Listing X found
-  pub fills : (page : List ℕ) (seen : List Entry) → Fills page seen given left old → Fills page (seen ++ found) given₁ left₁ now
+  pub fills : (page : List ℕ) (seen : List Entry) → Fills page seen given left old
+      → Fills page (seen ++ found) given₁ left₁ now
   pub same : length now ≡ length old
 
--- the entries of first node u whose second node is from `from` on and below v, with the lengths and lifted weights that two lists hold, within the length test and at least the lifted floor
+-- the entries of first node u whose second node is from `from` on and below v, with the lengths and lifted weights that
+-- two lists hold, within the length test and at least the lifted floor
 pub record Here (Within : ℕ → Type 0) (len wt : List ℕ) (u from floor v : ℕ) (e : Entry) : Type 0 where
   pub one : e .low ≡ u
   pub since : from ≤ e .high
@@ -72,6 +76,7 @@ pub record Ready (out : List ℕ) (room : ℕ) (len wt : List ℕ) (u from n lef
   pub few : left ≤ 4096 * u
   pub node : u < 4096
 
-pub record Seconds (Within : ℕ → Type 0) (len wt : List ℕ) (u from floor v : ℕ) (old : List ℕ) (given left : ℕ) (now : List ℕ) (given₁ left₁ : ℕ) : Type 0 where
+pub record Seconds (Within : ℕ → Type 0) (len wt : List ℕ) (u from floor v : ℕ) (old : List ℕ) (given left : ℕ)
+    (now : List ℕ) (given₁ left₁ : ℕ) : Type 0 where
   pub grown : Grown (Here Within len wt u from floor v) old given left now given₁ left₁
   pub few : left₁ + from ≤ left + v

@@ -1,4 +1,5 @@
-// Pages of the listing: rows of 16 bytes in lent memory, filled in pair order, one first node at a time. Knows no tree: the lengths and the lifted weights of a node's paths come in two lent arrays.
+// Pages of the listing: rows of 16 bytes in lent memory, filled in pair order, one first node at a time. Knows no tree:
+// the lengths and the lifted weights of a node's paths come in two lent arrays.
 ghost use mathlib.Core.Path.{_≡_};
 ghost use Prim.Native.Nat.{_+_, _*_, _≤_, _<_};
 ghost use lib.ListN.{length};
@@ -57,8 +58,12 @@ fn put_row(out: &mut [u8], at: usize, a: usize, b: usize, l: u64, x: u64)
 
 // A row more where there is room for it, one more left over where there is none.
 fn add(out: &mut [u8], room: usize, a: usize, b: usize, l: u64, x: u64, c: Count) -> Count
-    requires { ⌜ (16 * room ≤ length (now out)) × (length (now out) < 16 * room + 16) × (x < 17179869184) × (c .left < 33554432) ⌝ }
-    ensures { λ r. ⌜ Added (entry a b l (lower x)) (now (out .entry)) (c .given) (c .left) (now (out .exit)) (r .given) (r .left) ⌝ }
+    requires { ⌜ (16 * room ≤ length (now out))
+        × (length (now out) < 16 * room + 16)
+        × (x < 17179869184)
+        × (c .left < 33554432) ⌝ }
+    ensures { λ r. ⌜ Added (entry a b l (lower x)) (now (out .entry)) (c .given) (c .left) (now (out .exit)) (r .given)
+        (r .left) ⌝ }
 {
     if c.given < room {
         let g = c.given;
@@ -123,7 +128,8 @@ pub fn seconds(
     c: Count,
 ) -> Count
     requires { ⌜ Ready (now out) room (now len) (now wt) u from n (c .left) ⌝ }
-    ensures { λ r. ⌜ Seconds (λ l. l ≤ bound) (now (len .entry)) (now (wt .entry)) u from floor n (now (out .entry)) (c .given) (c .left) (now (out .exit)) (r .given) (r .left) ⌝ }
+    ensures { λ r. ⌜ Seconds (λ l. l ≤ bound) (now (len .entry)) (now (wt .entry)) u from floor n (now (out .entry))
+        (c .given) (c .left) (now (out .exit)) (r .given) (r .left) ⌝ }
 {
     let mut k = c;
     let mut v = from;

@@ -1,5 +1,5 @@
--- The best pair of nodes over their climbs to the root: what stands between the pairs of places and the paths of the net. d and w are each node's distance
--- and lifted weight from the root.
+-- The best pair of nodes over their climbs to the root: what stands between the pairs of places and the paths of the
+-- net. d and w are each node's distance and lifted weight from the root.
 use Prim.Native.Nat.{ℕ, _+_, _*_, _≤_, _<_}
 use mathlib.Core.Path.{_≡_}
 use mathlib.Core.Logic.{_⊎_, _≢_}

@@ -1,4 +1,5 @@
--- What `heaviest_pair` promises allows one outcome: a pair of nodes has one length and one weight, so it is carried in one way.
+-- What `heaviest_pair` promises allows one outcome: a pair of nodes has one length and one weight, so it is carried in
+-- one way.
 use Prim.Native.Nat.{ℕ, _+_, _≤_}
 use mathlib.Core.Path.{_≡_, sym, ap, _∙_}
 use mathlib.Core.Logic.{_⊎_, inl, inr}
@@ -33,7 +34,8 @@ module _ (Value : ℕ → ℕ → ℕ → ℤ → Type 0) (n : ℕ)
 
   module _ (bound : ℕ) where
     -- a pair that is found is beaten by any other outcome
-    below : {r x : Best} → BestPair Value n bound r → Carried Value n (x .low) (x .high) x → x .length ≤ bound + lift → Le x r
+    below : {r x : Best} → BestPair Value n bound r → Carried Value n (x .low) (x .high) x → x .length ≤ bound + lift
+        → Le x r
     below {r} {x} h p o =
         let t = h .beats (x .low) (x .high) (p .lower) (p .fits) in
         let e : t .0 ≡ x = carried-one (t .1) p in
@@ -42,19 +44,24 @@ module _ (Value : ℕ → ℕ → ℕ → ℤ → Type 0) (n : ℕ)
         moved : {a b : Best} → a ≡ b → (a .length ≤ bound + lift → Le a r) → b .length ≤ bound + lift → Le b r
         moved e f = rw e at f
 
-    not-none : {r x : Best} → BestPair Value n bound r → r ≡ best4 0 0 0 0 → Carried Value n (x .low) (x .high) x → x .length ≤ bound + lift → ⊥
+    not-none : {r x : Best} → BestPair Value n bound r → r ≡ best4 0 0 0 0 → Carried Value n (x .low) (x .high) x
+        → x .length ≤ bound + lift → ⊥
     not-none h e p o = omega (arith, below h p o .weight, p .near-low, ap (λ b. b .weight) e)
 
     best-only : (x y : Best) → BestPair Value n bound x → BestPair Value n bound y → x ≡ y
     best-only x y p q = pick (p .comes) (q .comes)
       where
-        pick : (x ≡ best4 0 0 0 0) ⊎ (Carried Value n (x .low) (x .high) x × (x .length ≤ bound + lift)) → (y ≡ best4 0 0 0 0) ⊎ (Carried Value n (y .low) (y .high) y × (y .length ≤ bound + lift)) → x ≡ y
+        pick : (x ≡ best4 0 0 0 0) ⊎ (Carried Value n (x .low) (x .high) x × (x .length ≤ bound + lift))
+            → (y ≡ best4 0 0 0 0) ⊎ (Carried Value n (y .low) (y .high) y × (y .length ≤ bound + lift)) → x ≡ y
         pick (inl e) (inl f) = e ∙ sym f
         pick (inl e) (inr k) = absurd (not-none p e (k .0) (k .1))
         pick (inr k) (inl f) = absurd (not-none q f (k .0) (k .1))
         pick (inr k) (inr j) = le-antisym x y (below q (k .0) (k .1)) (below p (j .0) (j .1))
 
 -- and so it is in every net that fits the arrays
-pub heaviest-pair-only : {n : ℕ} {parent order place bl bw : List ℕ} (g : Ground n parent order place bl bw) (bound : ℕ) (x y : Best)
-    → BestPair (Value (g .u) (g .v) (g .k) (g .long) (g .heavy)) n bound x → BestPair (Value (g .u) (g .v) (g .k) (g .long) (g .heavy)) n bound y → x ≡ y
-heaviest-pair-only {n} g bound = best-only (Value (g .u) (g .v) (g .k) (g .long) (g .heavy)) n (λ a b l m w z. one-value g) bound
+pub heaviest-pair-only :
+    {n : ℕ} {parent order place bl bw : List ℕ} (g : Ground n parent order place bl bw) (bound : ℕ) (x y : Best)
+    → BestPair (Value (g .u) (g .v) (g .k) (g .long) (g .heavy)) n bound x
+    → BestPair (Value (g .u) (g .v) (g .k) (g .long) (g .heavy)) n bound y → x ≡ y
+heaviest-pair-only {n} g bound =
+    best-only (Value (g .u) (g .v) (g .k) (g .long) (g .heavy)) n (λ a b l m w z. one-value g) bound

@@ -1,5 +1,5 @@
--- From climbs to paths: where the climbs of two nodes meet, the distances and weights from the root give the length and the weight of the path
--- between them. So the best pair over climbs is the best over the net's own paths.
+-- From climbs to paths: where the climbs of two nodes meet, the distances and weights from the root give the length and
+-- the weight of the path between them. So the best pair over climbs is the best over the net's own paths.
 use Prim.Native.Nat.{ℕ, zero, suc, _+_, _*_, _≤_, _<_}
 use mathlib.Core.Path.{_≡_, refl, ap}
 use mathlib.Core.Logic.{_⊎_, inl, inr, _≢_, ⊎-elim}
@@ -47,7 +47,8 @@ as-many (go h e w) = omega (arith, as-many w)
 equally : {a b : ℕ} {y z : ℤ} → y ≡ z → Diff a b z → Diff a b y
 equally e h = rw e h
 
-module _ {n : ℕ} {parent order place bl bw : List ℕ} (g : Ground n parent order place bl bw) (d w : List ℕ) (P : Paths g 0 d w) where
+module _ {n : ℕ} {parent order place bl bw : List ℕ} (g : Ground n parent order place bl bw) (d w : List ℕ)
+    (P : Paths g 0 d w) where
   abbrev From : ℕ → ℕ → ℕ → ℤ → Type 0
   From = Value (g .u) (g .v) (g .k) (g .long) (g .heavy)
 
@@ -62,15 +63,21 @@ module _ {n : ℕ} {parent order place bl bw : List ℕ} (g : Ground n parent or
       pick (inr s) = s .0 refl
 
   -- the path from the root, one node on
-  up-one : (x : ℕ) → x < n → x ≢ 0 → (at d x ≡ at d (at parent x) + g .long (g .row x)) × (subℕ (at w x) 8589934592 ≡ subℕ (at w (at parent x)) 8589934592 +ℤ g .heavy (g .row x))
+  up-one : (x : ℕ) → x < n → x ≢ 0
+      → (at d x ≡ at d (at parent x) + g .long (g .row x))
+      × (subℕ (at w x) 8589934592 ≡ subℕ (at w (at parent x)) 8589934592 +ℤ g .heavy (g .row x))
   up-one x b z =
-      let p = value-down (g .u) (g .v) (g .rooted) x b z (root-top z) (from-root (at parent x) (g .grown .fits x b z)) in
-      (length-only (g .u) (g .v) (g .rooted .forest) (from-root x b) p, weight-only (g .u) (g .v) (g .rooted .forest) (from-root x b) p)
+      let p = value-down (g .u) (g .v) (g .rooted) x b z (root-top z)
+      (from-root (at parent x) (g .grown .fits x b z)) in (
+        length-only (g .u) (g .v) (g .rooted .forest) (from-root x b) p,
+        weight-only (g .u) (g .v) (g .rooted .forest) (from-root x b) p,
+      )
 
   w-up : (x : ℕ) → x < n → x ≢ 0 → Diff (at w x) (at w (at parent x)) (g .heavy (g .row x))
   w-up x b z =
       let h = g .weight-is x b z in
-      let e : at w x + (8589934592 + 1000000) ≡ (at w (at parent x) + at bw x) + 8589934592 = sides (diff (at w x) 8589934592) (equally (up-one x b z .1) (sum (diff (at w (at parent x)) 8589934592) h)) in
+      let e : at w x + (8589934592 + 1000000) ≡ (at w (at parent x) + at bw x) + 8589934592 = sides
+      (diff (at w x) 8589934592) (equally (up-one x b z .1) (sum (diff (at w (at parent x)) 8589934592) h)) in
       same (omega (arith, e)) h
 
   -- the root is at 0, and each branch is at most 1,000,000 long
@@ -79,16 +86,22 @@ module _ {n : ℕ} {parent order place bl bw : List ℕ} (g : Ground n parent or
   near (suc m) x b l = pick (ℕ-discrete x 0) (near m (at parent x))
     where
       root : at d 0 ≡ 0
-      root = length-only (g .u) (g .v) (g .rooted .forest) (from-root 0 (g .grown .some .0)) (value-none (g .u) (g .v) 0)
+      root =
+          length-only (g .u) (g .v) (g .rooted .forest) (from-root 0 (g .grown .some .0)) (value-none (g .u) (g .v) 0)
 
-      pick : Dec (x ≡ 0) → (at parent x < n → at place (at parent x) < m → at d (at parent x) ≤ 1000000 * at place (at parent x)) → at d x ≤ 1000000 * at place x
+      pick : Dec (x ≡ 0)
+          → (at parent x < n → at place (at parent x) < m → at d (at parent x) ≤ 1000000 * at place (at parent x))
+          → at d x ≤ 1000000 * at place x
       pick (yes e) ih = omega (arith, root, ap (at d) e)
       pick (no z) ih =
           let s = g .grown .earlier x b z in
           omega (arith, s, up-one x b z .0, g .length-is x b z, g .short x b z, ih (g .grown .fits x b z) (omega arith))
 
   pub d-low : Lifted n d
-  d-low = record { low = λ x b. omega (arith, near (suc (at place x)) x b (omega arith), g .grown .here x b .0, g .grown .some .1) }
+  d-low =
+      record {
+        low = λ x b. omega (arith, near (suc (at place x)) x b (omega arith), g .grown .here x b .0, g .grown .some .1);
+      }
 
   pub w-low : Lifted n w
   w-low = record { low = λ x b. omega (arith, P .small x b) }
@@ -105,7 +118,9 @@ module _ {n : ℕ} {parent order place bl bw : List ℕ} (g : Ground n parent or
   deeper = far-sums T (g .row) (λ r. 1)
 
   -- along a climb the weight changes by at most 1,000,000 a branch
-  steps : {t x : ℕ} → x < n → Above (at parent) t x → (at w x + 1000000 * depth t ≤ at w t + 1000000 * depth x) × (at w t + 1000000 * depth t ≤ at w x + 1000000 * depth x)
+  steps : {t x : ℕ} → x < n → Above (at parent) t x
+      → (at w x + 1000000 * depth t ≤ at w t + 1000000 * depth x)
+      × (at w t + 1000000 * depth t ≤ at w x + 1000000 * depth x)
   steps b self = (omega arith, omega arith)
   steps {t} {x} b (up {y} z e h) =
       let i = steps (rw e at (g .grown .fits x b z)) h in
@@ -127,7 +142,10 @@ module _ {n : ℕ} {parent order place bl bw : List ℕ} (g : Ground n parent or
 
   -- what the lists weigh is the path's length and weight
   carried : (x y : ℕ) (b : Best) → x < y → y < n → climbs.Value n parent d w x y b → Carried From n x y b
-  carried x y b o by v = put (route (g .rooted) T bx by (v .meet .left) (v .meet .right) (λ z h k. v .meet .first z (h .below) (h .not) (k .above) (h .above)))
+  carried x y b o by v =
+      put
+      (route (g .rooted) T bx by (v .meet .left) (v .meet .right)
+      (λ z h k. v .meet .first z (h .below) (h .not) (k .above) (h .above)))
     where
       bx : x < n
       bx = omega arith
@@ -159,9 +177,16 @@ module _ {n : ℕ} {parent order place bl bw : List ℕ} (g : Ground n parent or
       beats : (x y : ℕ) → x < y → y < n → (b : Best) × Carried From n x y b × (b .length ≤ bound + lift → Le b r)
       beats x y o by = let k = c .beats x y o by in (k .best, carried x y (k .best) o by (k .value), k .beaten)
 
-      named : {x y : ℕ} → r .low ≡ x → r .high ≡ y → Carried From n x y r → (a b : ℕ) → a ≡ x → b ≡ y → Carried From n a b r
+      named : {x y : ℕ} → r .low ≡ x → r .high ≡ y → Carried From n x y r → (a b : ℕ) → a ≡ x → b ≡ y
+          → Carried From n a b r
       named e f h a b i j = rw (i, j) h
 
-      comes : (r ≡ best4 0 0 0 0) ⊎ Found n parent d w (bound + lift) r → (r ≡ best4 0 0 0 0) ⊎ (Carried From n (r .low) (r .high) r × (r .length ≤ bound + lift))
+      comes : (r ≡ best4 0 0 0 0) ⊎ Found n parent d w (bound + lift) r
+          → (r ≡ best4 0 0 0 0) ⊎ (Carried From n (r .low) (r .high) r × (r .length ≤ bound + lift))
       comes (inl e) = inl e
-      comes (inr f) = inr (named (f .value .low) (f .value .high) (carried (f .x) (f .y) r (f .order) (f .fits) (f .value)) (r .low) (r .high) (f .value .low) (f .value .high), f .short)
+      comes (inr f) =
+          inr (
+            named (f .value .low) (f .value .high) (carried (f .x) (f .y) r (f .order) (f .fits) (f .value)) (r .low)
+                (r .high) (f .value .low) (f .value .high),
+            f .short,
+          )

@@ -1,6 +1,6 @@
-// The nodes of a net numbered by places, so that what is below a node is a run of places and each spine's items follow each other: a node, then the
-// trees that hang from it one after the other, then the rest of its spine. seats.rt gives each node its place, its spot; laid.rt lays out arrays
-// by place; the lists of crate runs then find the best pair.
+// The nodes of a net numbered by places, so that what is below a node is a run of places and each spine's items follow
+// each other: a node, then the trees that hang from it one after the other, then the rest of its spine. seats.rt gives
+// each node its place, its spot; laid.rt lays out arrays by place; the lists of crate runs then find the best pair.
 ghost use Prim.Native.Nat.{_<_};
 ghost use Rattle.tree.specs.Grown.{Grown};
 ghost use Rattle.tree.specs.Value.{Value};
@@ -34,7 +34,8 @@ fn number(
     names: &mut [u16; 4096],
 )
     requires { ⌜ Grown n (now parent) (now order) (now place) ⌝ }
-    ensures { λ _. ⌜ Numbering n (now (parent .entry)) (now (place .entry)) (now (spot .exit)) (now (stops .exit)) (now (heads .exit)) (now (parents .exit)) (now (names .exit)) ⌝ }
+    ensures { λ _. ⌜ Numbering n (now (parent .entry)) (now (place .entry)) (now (spot .exit)) (now (stops .exit))
+        (now (heads .exit)) (now (parents .exit)) (now (names .exit)) ⌝ }
 {
     let mut head: [u16; 4096] = [0; 4096];
     let mut size: [u16; 4096] = [0; 4096];
@@ -48,7 +49,8 @@ fn number(
     lay_names(spot, n, names);
 }
 
-// All that `whole` reads, by place; far and heavy are the distance and the lifted weight of each place's node from the root.
+// All that `whole` reads, by place; far and heavy are the distance and the lifted weight of each place's node from the
+// root.
 fn lay_out(
     parent: &[u16; 4096],
     order: &[u16; 4096],
@@ -64,7 +66,9 @@ fn lay_out(
     heavy: &mut [u64; 4096],
 )
     requires { ⌜ Ground n (now parent) (now order) (now place) (now bl) (now bw) ⌝ }
-    ensures { λ _. ⌜ LaidOut n (now (parent .entry)) (now (order .entry)) (now (place .entry)) (now (bl .entry)) (now (bw .entry)) (now (stops .exit)) (now (heads .exit)) (now (parents .exit)) (now (names .exit)) (now (far .exit)) (now (heavy .exit)) ⌝ }
+    ensures { λ _. ⌜ LaidOut n (now (parent .entry)) (now (order .entry)) (now (place .entry)) (now (bl .entry))
+        (now (bw .entry)) (now (stops .exit)) (now (heads .exit)) (now (parents .exit)) (now (names .exit))
+        (now (far .exit)) (now (heavy .exit)) ⌝ }
 {
     let mut spot: [u16; 4096] = [0; 4096];
     let mut above: [u16; 4096] = [0; 4096];
@@ -97,8 +101,9 @@ fn lay_out(
     lay_long(&spot, &w, n, heavy);
 }
 
-// Between crates: the heaviest pair of nodes whose path is at most `bound` long. bl and bw hold, for each node but 0, the length and the lifted weight
-// of the branch to its parent. The answer's length and weight are lifted by 2^40; weight 0 is none.
+// Between crates: the heaviest pair of nodes whose path is at most `bound` long. bl and bw hold, for each node but 0,
+// the length and the lifted weight of the branch to its parent. The answer's length and weight are lifted by 2^40;
+// weight 0 is none.
 pub fn heaviest_pair(
     parent: &[u16; 4096],
     order: &[u16; 4096],
@@ -110,7 +115,9 @@ pub fn heaviest_pair(
 ) -> Best
     requires { ⌜ Ground n (now parent) (now order) (now place) (now bl) (now bw) ⌝ }
     requires { ⌜ bound < 4294967296 ⌝ }
-    ensures { λ r. ⌜ ((g : Ground n (now (parent .entry)) (now (order .entry)) (now (place .entry)) (now (bl .entry)) (now (bw .entry))) → BestPair (Value (g .u) (g .v) (g .k) (g .long) (g .heavy)) n bound r) ⌝ }
+    ensures { λ r. ⌜ ((g : Ground n (now (parent .entry)) (now (order .entry)) (now (place .entry)) (now (bl .entry))
+        (now (bw .entry)))
+        → BestPair (Value (g .u) (g .v) (g .k) (g .long) (g .heavy)) n bound r) ⌝ }
 {
     let mut stops: [u16; 4096] = [0; 4096];
     let mut heads: [u16; 4096] = [0; 4096];

@@ -1,5 +1,5 @@
--- One outcome only: a pair across two items is, in the tree, the pair whose climbs meet at t; so each pair of places has one value, and what
--- `whole` promises allows one best.
+-- One outcome only: a pair across two items is, in the tree, the pair whose climbs meet at t; so each pair of places
+-- has one value, and what `whole` promises allows one best.
 use Prim.Native.Nat.{ℕ, zero, suc, _+_, _≤_, _<_}
 use mathlib.Core.Path.{_≡_, sym, ap, _∙_}
 use mathlib.Core.Logic.{_⊎_, inl, inr}
@@ -17,18 +17,22 @@ use Rattle.runs.proofs.Parts.{part-le}
 
 -- One outcome only, where a pair has one value
 module _ (stop head parent name d w : List ℕ) (s e limit : ℕ) (old : Best)
-    (one : (p q : ℕ) (a b : Best) → q < e → Cross stop head parent name d w p q a → Cross stop head parent name d w p q b → a ≡ b) where
-  below : (x y : Best) → Searched stop head parent name d w s e limit old x → Searched stop head parent name d w s e limit old y → Le x y
+    (one : (p q : ℕ) (a b : Best) → q < e → Cross stop head parent name d w p q a
+    → Cross stop head parent name d w p q b → a ≡ b) where
+  below : (x y : Best) → Searched stop head parent name d w s e limit old x
+      → Searched stop head parent name d w s e limit old y → Le x y
   below x y f g = pick (f .comes)
     where
       pick : (x ≡ old) ⊎ Found stop head parent name d w s e limit x → Le x y
       pick (inl u) = rw u (g .keeps)
       pick (inr u) =
-          let k : Met stop head parent name d w (u .p) (u .q) limit y = g .beats (u .p) (u .q) (u .p-low) (u .p-q) (u .q-high) in
+          let k : Met stop head parent name d w (u .p) (u .q) limit y = g .beats (u .p) (u .q) (u .p-low) (u .p-q)
+          (u .q-high) in
           let v : k .best ≡ x = one (u .p) (u .q) (k .best) x (u .q-high) (k .cross) (u .cross) in
           rw v at (k .beaten (rw v (u .short)))
 
-  pub searched-only : (x y : Best) → Searched stop head parent name d w s e limit old x → Searched stop head parent name d w s e limit old y → x ≡ y
+  pub searched-only : (x y : Best) → Searched stop head parent name d w s e limit old x
+      → Searched stop head parent name d w s e limit old y → x ≡ y
   searched-only x y f g = le-antisym x y (below x y f g) (below y x g f)
 
 -- a subtree is a run of places: for the tree's theory to show
@@ -68,7 +72,9 @@ module _ (stop head parent : List ℕ) (n : ℕ) (z : Numbered stop head parent 
     where
       pick : Dec (a ≡ 0) → ((x : ℕ) → x ≤ k → x < n → at stop x ≡ at stop (at head x)) → at stop a ≡ at stop (at head a)
       pick (yes u) ih = ends-zero a u
-      pick (no u) ih = ends-step a (omega arith) c (ih (at parent a) (omega (arith, y .up a (omega arith) c)) (omega (arith, y .up a (omega arith) c)))
+      pick (no u) ih =
+          ends-step a (omega arith) c
+          (ih (at parent a) (omega (arith, y .up a (omega arith) c)) (omega (arith, y .up a (omega arith) c)))
 
   spine-end : (a h : ℕ) → a < n → at head a ≡ h → at stop a ≡ at stop h
   spine-end a h b e = ends-fuel a a (omega arith) b ∙ ap (λ x. at stop x) e
@@ -90,10 +96,17 @@ module _ (stop head parent : List ℕ) (n : ℕ) (z : Numbered stop head parent 
       pick (no v) ih = ih (omega arith) b c (omega arith)
 
   -- a place that hangs at t, seen from a later one
-  item-climbs : {h k r t m : ℕ} (p q : ℕ) → Item stop head parent h k r t → k ≤ p → p < r → r ≤ m → m ≤ q → q < n → (0 < m → q < at stop h) → Climbs stop p q t
+  item-climbs : {h k r t m : ℕ} (p q : ℕ) → Item stop head parent h k r t → k ≤ p → p < r → r ≤ m → m ≤ q → q < n
+      → (0 < m → q < at stop h) → Climbs stop p q t
   item-climbs p q (own {h} {s} o) a b c d e f =
       let u : p ≡ s = omega arith in
-      record { p-low = a; p-high = rw u (z .grows s (omega arith)); q-low = omega arith; q-high = omega (arith, f (omega arith), spine-end s h (omega arith) o); apart = λ x i j l. omega arith }
+      record {
+        p-low = a;
+        p-high = rw u (z .grows s (omega arith));
+        q-low = omega arith;
+        q-high = omega (arith, f (omega arith), spine-end s h (omega arith) o);
+        apart = λ x i j l. omega arith;
+      }
   item-climbs p q (tree {h} {s} {r} n₁ o up g l v) a b c d e f =
       let s-in : s < n = omega arith in
       record {
@@ -109,10 +122,12 @@ module _ (stop head parent : List ℕ) (n : ℕ) (z : Numbered stop head parent 
       apart x j k w (no u) = omega (arith, y .shut s x (omega arith) (omega arith) (omega (arith, o)), o)
 
   -- the pair that the lists weigh is the pair of the tree
-  pub cross-climbs : (name d w : List ℕ) (p q : ℕ) (b : Best) (c : Cross stop head parent name d w p q b) → q < n → Climbs stop p q (c .t)
+  pub cross-climbs : (name d w : List ℕ) (p q : ℕ) (b : Best) (c : Cross stop head parent name d w p q b) → q < n
+      → Climbs stop p q (c .t)
   cross-climbs name d w p q b c l =
       let i = c .left in
-      item-climbs p q (i .item) (i .low) (i .high) (part-le stop head parent (i .after)) (c .low) l (λ m. part-in q (c .right) (c .low) (c .high) l m)
+      item-climbs p q (i .item) (i .low) (i .high) (part-le stop head parent (i .after)) (c .low) l
+      (λ m. part-in q (c .right) (c .low) (c .high) l m)
 
   climbs-one : (p q t t′ : ℕ) → Climbs stop p q t → Climbs stop p q t′ → t ≡ t′
   climbs-one p q t t′ f g = pick (decLt t t′) (decLt t′ t)
@@ -123,9 +138,11 @@ module _ (stop head parent : List ℕ) (n : ℕ) (z : Numbered stop head parent 
       pick (no u) (no v) = omega arith
 
   -- a pair has one value
-  pub cross-one : (name d w : List ℕ) (p q : ℕ) (a b : Best) → q < n → Cross stop head parent name d w p q a → Cross stop head parent name d w p q b → a ≡ b
+  pub cross-one : (name d w : List ℕ) (p q : ℕ) (a b : Best) → q < n → Cross stop head parent name d w p q a
+      → Cross stop head parent name d w p q b → a ≡ b
   cross-one name d w p q a b l f g =
-      let e : f .t ≡ g .t = climbs-one p q (f .t) (g .t) (cross-climbs name d w p q a f l) (cross-climbs name d w p q b g l) in
+      let e : f .t ≡ g .t = climbs-one p q (f .t) (g .t) (cross-climbs name d w p q a f l)
+      (cross-climbs name d w p q b g l) in
       let w₁ : a .weight ≡ b .weight = omega (arith, f .value .weight, g .value .weight, ap (λ x. at w x) e) in
       let w₂ : a .length ≡ b .length = omega (arith, f .value .length, g .value .length, ap (λ x. at d x) e) in
       let w₃ : a .low ≡ b .low = f .value .low ∙ sym (g .value .low) in
@@ -133,5 +150,7 @@ module _ (stop head parent : List ℕ) (n : ℕ) (z : Numbered stop head parent 
       λ i. record { weight = w₁ i; length = w₂ i; low = w₃ i; high = w₄ i }
 
   -- the promise of `whole` allows one outcome
-  pub whole-only : (name d w : List ℕ) (limit : ℕ) (old x y : Best) → Searched stop head parent name d w 0 n limit old x → Searched stop head parent name d w 0 n limit old y → x ≡ y
-  whole-only name d w limit old = searched-only stop head parent name d w 0 n limit old (λ p q a b l. cross-one name d w p q a b l)
+  pub whole-only : (name d w : List ℕ) (limit : ℕ) (old x y : Best) → Searched stop head parent name d w 0 n limit old x
+      → Searched stop head parent name d w 0 n limit old y → x ≡ y
+  whole-only name d w limit old =
+      searched-only stop head parent name d w 0 n limit old (λ p q a b l. cross-one name d w p q a b l)

@@ -1,4 +1,5 @@
--- Working statements of the private functions of keyed.rt and spine.rt, and no part of the promises: the lists and keys of a part.
+-- Working statements of the private functions of keyed.rt and spine.rt, and no part of the promises: the lists and keys
+-- of a part.
 use Prim.Native.Nat.{ℕ, _+_, _*_, _≤_, _<_}
 use mathlib.Core.Path.{_≡_}
 use mathlib.Core.List.{List}

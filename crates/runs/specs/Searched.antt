@@ -1,4 +1,5 @@
--- The best pair of places: what a pair across two items of a spine weighs and measures, and that a best beats all pairs of a run of places.
+-- The best pair of places: what a pair across two items of a spine weighs and measures, and that a best beats all pairs
+-- of a run of places.
 use Prim.Native.Nat.{ℕ, _+_, _*_, _≤_, _<_, min, max}
 use mathlib.Core.Path.{_≡_}
 use mathlib.Core.Logic.{_⊎_}

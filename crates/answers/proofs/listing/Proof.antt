@@ -17,7 +17,9 @@ enum-known-o-2 : tie.Need-enum-known-o-2
 enum-known-o-2 c = search needs
 
 go-on-requires : tie.Need-go-on-requires
-go-on-requires c κs = admitted _ _ _ (rw (c .before .before .o2 .given .1) at (c .before .before .before .before .accept .ensures)) .net
+go-on-requires c κs =
+    let accept-ensures = c .before .before .before .before .accept .ensures in
+    admitted _ _ _ (rw (c .before .before .o2 .given .1) at accept-ensures) .net
 
 returns : tie.Need-returns
 returns c = refused-on (refusal _) _ _ (rw (c .before .o .given .1) at (c .before .before .before .accept .ensures))
@@ -27,9 +29,13 @@ same-length c = search needs
 
 returns-2 : tie.Need-returns-2
 returns-2 c =
-    let p = rw (c .before .before .before .before .before .o2 .given .1) at (c .before .before .before .before .before .before .before .accept .ensures) in
+    let o2-given = c .before .before .before .before .before .o2 .given in
+    let accept-ensures = c .before .before .before .before .before .before .before .accept .ensures in
+    let args = c .before .before .before .before .before .before .before .before .before .before .before .args in
+    let fits = c .before .before .before .before .before .before .before .before .before .before .before .fits in
+    let p = rw (o2-given .1) at accept-ensures in
     let a = admitted _ _ _ p in
-    let e = toZ-ofZ w64 (c .before .before .before .before .before .before .before .before .before .before .before .args .floor) (c .before .before .before .before .before .before .before .before .before .before .before .fits .floor) in
+    let e = toZ-ofZ w64 (args .floor) (fits .floor) in
     passed-on (refusal _) _ _ _ p (rw (e, a .nodes, a .bound) at (c .before .before .go-on .ensures))
 
 pub listing-spec : {M : Type 1} → statement M

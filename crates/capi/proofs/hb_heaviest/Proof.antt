@@ -16,7 +16,9 @@ enum-known-o : tie.Need-enum-known-o
 enum-known-o c = search needs
 
 fill-requires : tie.Need-fill-requires
-fill-requires c κs = heaviest-low _ _ _ (rw (c .before .before .o .given .1) at (c .before .before .before .before .heaviest .ensures))
+fill-requires c κs =
+    let heaviest-ensures = c .before .before .before .before .heaviest .ensures in
+    heaviest-low _ _ _ (rw (c .before .before .o .given .1) at heaviest-ensures)
 
 enum-known-o-2 : tie.Need-enum-known-o-2
 enum-known-o-2 c = search needs
@@ -43,15 +45,31 @@ fill-requires-2 : tie.Need-fill-requires-2
 fill-requires-2 c κs = search needs
 
 returns : tie.Need-returns
-returns c = record { outcome = _; promise = rw (c .before .before .before .o .given .1) at (c .before .before .before .before .before .heaviest .ensures); shown = calls (c .fill .ensures .0) (c .fill .ensures .1) refl }
+returns c =
+    let o-given = c .before .before .before .o .given in
+    let heaviest-ensures = c .before .before .before .before .before .heaviest .ensures in
+    record {
+      outcome = _;
+      promise = rw (o-given .1) at heaviest-ensures;
+      shown = calls (c .fill .ensures .0) (c .fill .ensures .1) refl;
+    }
 
 returns-2 : tie.Need-returns-2
 returns-2 c =
-    let a = stored _ _ (c .before .before .before .before .signed .ensures) (omega arith) in
-    let b = stored _ _ (c .before .before .before .signed2 .ensures) (omega arith) in
+    let signed2-ensures = c .before .before .before .signed2 .ensures in
+    let signed-ensures = c .before .before .before .before .signed .ensures in
+    let known-told2-given = c .before .before .before .before .before .known-told2 .given in
+    let o2-given = c .before .before .before .before .before .before .o2 .given in
+    let heaviest-ensures = c .before .before .before .before .before .before .before .before .heaviest .ensures in
+    let a = stored _ _ signed-ensures (omega arith) in
+    let b = stored _ _ signed2-ensures (omega arith) in
     let l = stored _ _ (c .before .before .signed3 .ensures) (omega arith) in
-    let w = toZ-ofZ w64 (c .before .before .before .before .before .before .o2 .given .0 .1 .1 .1 .0) (record { sfits = c .before .before .before .before .before .known-told2 .given .1 .1 .1 .0 .1 }) in
-    record { outcome = _; promise = rw (c .before .before .before .before .before .before .o2 .given .1) at (c .before .before .before .before .before .before .before .before .heaviest .ensures); shown = calls (c .fill2 .ensures .0) (rw (a, b, l, w) at (c .fill2 .ensures .1)) refl }
+    let w = toZ-ofZ w64 (o2-given .0 .1 .1 .1 .0) (record { sfits = known-told2-given .1 .1 .1 .0 .1 }) in
+    record {
+      outcome = _;
+      promise = rw (o2-given .1) at heaviest-ensures;
+      shown = calls (c .fill2 .ensures .0) (rw (a, b, l, w) at (c .fill2 .ensures .1)) refl;
+    }
 
 pub hb-heaviest-spec : {M : Type 1} → statement M
 hb-heaviest-spec =

@@ -1,4 +1,5 @@
--- `pages::seconds` takes the second nodes in turn. The invariant: what was found among those below v has gone into the page, and no more was left over than nodes were passed.
+-- `pages::seconds` takes the second nodes in turn. The invariant: what was found among those below v has gone into the
+-- page, and no more was left over than nodes were passed.
 use Prim.Native.Nat.{_-_, _≤_}
 use mathlib.Core.Path.{_≡_, refl}
 use mathlib.Core.Logic.{⊎-elim}
@@ -11,7 +12,10 @@ use Rattle.pages.proofs.seconds.Tie as tie
 
 abbrev Inv-loop : tie.InvT-loop
 Inv-loop out₀ room len wt u from n bound floor k₀ v₀ out k v =
-    Seconds (λ l. l ≤ bound) len wt u from floor v out₀ (k₀ .given) (k₀ .left) out (k .given) (k .left) × Ready out₀ room len wt u from n (k₀ .left) × (from ≤ v) × (v ≤ n)
+    Seconds (λ l. l ≤ bound) len wt u from floor v out₀ (k₀ .given) (k₀ .left) out (k .given) (k .left)
+    × Ready out₀ room len wt u from n (k₀ .left)
+    × (from ≤ v)
+    × (v ≤ n)
 
 abbrev μ-loop : tie.MeasureT-loop
 μ-loop out₀ room len wt u from n bound floor k₀ v₀ out k v = n - v
@@ -36,8 +40,13 @@ passes-requires c κs = search needs
 
 add-requires : tie.Need-add-requires Inv-loop μ-loop
 add-requires c κs =
-    let h = c .before .before .before .before .before .before .loop .inv in
-    (omega (arith, h .0 .grown .same), omega (arith, h .0 .grown .same), h .1 .light _ (c .before .before .before .before .before .loop-test .taken), omega (arith, h .0 .few))
+    let loop-test-taken = c .before .before .before .before .before .loop-test .taken in
+    let h = c .before .before .before .before .before .before .loop .inv in (
+      omega (arith, h .0 .grown .same),
+      omega (arith, h .0 .grown .same),
+      h .1 .light _ loop-test-taken,
+      omega (arith, h .0 .few),
+    )
 
 add-v : tie.Need-add-v Inv-loop μ-loop
 add-v c = omega arith
@@ -47,10 +56,12 @@ loop-less c = omega arith
 
 loop-again : tie.Need-loop-again Inv-loop μ-loop
 loop-again c =
+    let passes-ensures = c .before .passes .ensures in
     let h = c .before .before .before .before .before .loop .inv in (
       ⊎-elim
-          (λ w. rw (w .5, w .6) (seconds-add _ (h .0) _ _ refl refl (h .2) (c .before .passes .ensures .holds (w .0 .taken)) (w .2 .ensures)))
-          (λ w. rw (w .1, w .2) (seconds-skip _ (h .0) _ _ refl refl (c .before .passes .ensures .fails (w .0 .left))))
+          (λ w. rw (w .5, w .6)
+          (seconds-add _ (h .0) _ _ refl refl (h .2) (passes-ensures .holds (w .0 .taken)) (w .2 .ensures)))
+          (λ w. rw (w .1, w .2) (seconds-skip _ (h .0) _ _ refl refl (passes-ensures .fails (w .0 .left))))
           (c .if1 .came),
       h .1,
       omega arith,
@@ -61,7 +72,11 @@ same-length : tie.Need-same-length Inv-loop μ-loop
 same-length c = c .before .loop .inv .0 .grown .same
 
 returns : tie.Need-returns Inv-loop μ-loop
-returns c = let h = c .before .loop .inv in let e : c .before .loop .v ≡ c .before .before .before .args .n = omega arith in rw e at (h .0)
+returns c =
+    let args = c .before .before .before .args in
+    let h = c .before .loop .inv in
+    let e : c .before .loop .v ≡ args .n = omega arith in
+    rw e at (h .0)
 
 pub seconds-spec : {M : Type 1} → statement M
 seconds-spec =

@@ -1,5 +1,5 @@
--- `places::heaviest_pair` meets its contract: the numbering is what `whole` asks; the best pair of places is the best pair of nodes over their climbs, and so over the
--- net's own paths.
+-- `places::heaviest_pair` meets its contract: the numbering is what `whole` asks; the best pair of places is the best
+-- pair of nodes over their climbs, and so over the net's own paths.
 use borrow.Author.Needs.{needs}
 use Rattle.places.proofs.Numbers.{part}
 use Rattle.places.proofs.Choosing.{laid-low, chosen}
@@ -15,16 +15,25 @@ add-whole c = search needs
 
 whole-requires : tie.Need-whole-requires
 whole-requires c κs =
-    let g = c .before .before .before .before .before .before .before .before .before .before .before .before .before .pre .0 in
     let o = c .before .before .before .before .before .before .lay-out .ensures in
-    let m = o .numbering in
-    (record { far = laid-low (g .grown) m _ _ (o .distances) (d-low g _ _ (o .paths g)); heavy = laid-low (g .grown) m _ _ (o .weights) (w-low g _ _ (o .paths g)) }, (part (g .grown) m, g .grown .some))
+    let back = c .before .before .before .before .before .before .before .before .before .before .before in
+    let back = back .before .before in
+    let g = back .pre .0 in
+    let m = o .numbering in (
+      record {
+        far = laid-low (g .grown) m _ _ (o .distances) (d-low g _ _ (o .paths g));
+        heavy = laid-low (g .grown) m _ _ (o .weights) (w-low g _ _ (o .paths g));
+      },
+      (part (g .grown) m, g .grown .some),
+    )
 
 returns : tie.Need-returns
 returns c =
+    let lay-out-ensures = c .before .before .before .before .before .before .before .lay-out .ensures in
     λ g.
-    let o = c .before .before .before .before .before .before .before .lay-out .ensures in
-    heaviest g _ _ (o .paths g) _ _ (chosen (g .grown) (o .numbering) _ _ _ _ (o .distances) (o .weights) _ _ (c .whole .ensures))
+    let o = lay-out-ensures in
+    heaviest g _ _ (o .paths g) _ _
+    (chosen (g .grown) (o .numbering) _ _ _ _ (o .distances) (o .weights) _ _ (c .whole .ensures))
 
 pub heaviest-pair-spec : {M : Type 1} → statement M
 heaviest-pair-spec = tie.close (tie.spec lay-out-requires add-whole whole-requires returns)

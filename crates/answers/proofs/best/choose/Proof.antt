@@ -1,4 +1,5 @@
--- `answers::choose` meets its contract: 13 by the number of marks; 16 where the best pair's weight is 0, for then no pair is within the bound; else the best pair's fields, lowered.
+-- `answers::choose` meets its contract: 13 by the number of marks; 16 where the best pair's weight is 0, for then no
+-- pair is within the bound; else the best pair's fields, lowered.
 use mathlib.Core.Logic.{_≢_}
 use native.Mathlib.Omega.{arith}
 use borrow.Author.Needs.{needs}
@@ -22,35 +23,70 @@ search-requires : tie.Need-search-requires
 search-requires c κs = search needs
 
 returns-2 : tie.Need-returns-2
-returns-2 c = passed (omega (arith, c .before .before .before .before .wide .ensures)) (refused (none-within _ (c .before .before .before .before .before .before .before .args .marks .now) (c .before .before .before .before .before .before .before .pre) (c .before .before .search .ensures) (omega arith)))
+returns-2 c =
+    let wide-ensures = c .before .before .before .before .wide .ensures in
+    let args = c .before .before .before .before .before .before .before .args in
+    let pre = c .before .before .before .before .before .before .before .pre in
+    passed (omega (arith, wide-ensures))
+    (refused (none-within _ (args .marks .now) pre (c .before .before .search .ensures) (omega arith)))
 
 cast-t12 : tie.Need-cast-t12
-cast-t12 c = omega (arith, nodes-fit _ (c .before .before .before .before .before .before .before .before .args .marks .now) (c .before .before .before .before .before .before .before .before .pre) (c .before .before .before .search .ensures) (c .before .before .before .before .before .before .before .before .pre .few) (omega arith))
+cast-t12 c =
+    let search-ensures = c .before .before .before .search .ensures in
+    let args = c .before .before .before .before .before .before .before .before .args in
+    let pre = c .before .before .before .before .before .before .before .before .pre in
+    omega (arith, nodes-fit _ (args .marks .now) pre search-ensures (pre .few) (omega arith))
 
 cast-t13 : tie.Need-cast-t13
-cast-t13 c = omega (arith, nodes-fit _ (c .before .before .before .before .before .before .before .before .before .args .marks .now) (c .before .before .before .before .before .before .before .before .before .pre) (c .before .before .before .before .search .ensures) (c .before .before .before .before .before .before .before .before .before .pre .few) (omega arith))
+cast-t13 c =
+    let search-ensures = c .before .before .before .before .search .ensures in
+    let args = c .before .before .before .before .before .before .before .before .before .args in
+    let pre = c .before .before .before .before .before .before .before .before .before .pre in
+    omega (arith, nodes-fit _ (args .marks .now) pre search-ensures (pre .few) (omega arith))
 
 sub-t14 : tie.Need-sub-t14
-sub-t14 c = omega (arith, length-fits _ (c .before .before .before .before .before .before .before .before .before .before .args .marks .now) (c .before .before .before .before .before .before .before .before .before .before .pre) (c .before .before .before .before .before .search .ensures) (omega arith) .0)
+sub-t14 c =
+    let search-ensures = c .before .before .before .before .before .search .ensures in
+    let args = c .before .before .before .before .before .before .before .before .before .before .args in
+    let pre = c .before .before .before .before .before .before .before .before .before .before .pre in
+    omega (arith, length-fits _ (args .marks .now) pre search-ensures (omega arith) .0)
 
 cast-t15 : tie.Need-cast-t15
-cast-t15 c = omega (arith, length-fits _ (c .before .before .before .before .before .before .before .before .before .before .args .marks .now) (c .before .before .before .before .before .before .before .before .before .before .pre) (c .before .before .before .before .before .search .ensures) (omega arith))
+cast-t15 c =
+    let search-ensures = c .before .before .before .before .before .search .ensures in
+    let args = c .before .before .before .before .before .before .before .before .before .before .args in
+    let pre = c .before .before .before .before .before .before .before .before .before .before .pre in
+    omega (arith, length-fits _ (args .marks .now) pre search-ensures (omega arith))
 
 add-lowered : tie.Need-add-lowered
-add-lowered c = omega (arith, weight-fits _ (c .before .before .before .before .before .before .before .before .before .before .before .args .marks .now) (c .before .before .before .before .before .before .before .before .before .before .before .pre) (c .before .before .before .before .before .before .search .ensures) (omega arith))
+add-lowered c =
+    let search-ensures = c .before .before .before .before .before .before .search .ensures in
+    let args = c .before .before .before .before .before .before .before .before .before .before .before .args in
+    let pre = c .before .before .before .before .before .before .before .before .before .before .before .pre in
+    omega (arith, weight-fits _ (args .marks .now) pre search-ensures (omega arith))
 
 sub-lowered : tie.Need-sub-lowered
-sub-lowered c = omega (arith, weight-fits _ (c .before .before .before .before .before .before .before .before .before .before .before .args .marks .now) (c .before .before .before .before .before .before .before .before .before .before .before .pre) (c .before .before .before .before .before .before .search .ensures) (omega arith))
+sub-lowered c =
+    let search-ensures = c .before .before .before .before .before .before .search .ensures in
+    let args = c .before .before .before .before .before .before .before .before .before .before .before .args in
+    let pre = c .before .before .before .before .before .before .before .before .before .before .before .pre in
+    omega (arith, weight-fits _ (args .marks .now) pre search-ensures (omega arith))
 
 lowered-requires : tie.Need-lowered-requires
 lowered-requires c κs = search needs
 
 returns-3 : tie.Need-returns-3
 returns-3 c =
-    let m : c .before .before .before .before .before .before .before .search .result .weight ≢ 0 = omega arith in
-    let r = run-given _ (c .before .before .before .before .before .before .before .before .before .before .before .before .args .marks .now) (c .before .before .before .before .before .before .before .before .before .before .before .before .pre) (c .before .before .before .before .before .before .before .search .ensures) m _ (c .lowered .ensures) in
+    let search-ensures = c .before .before .before .before .before .before .before .search .ensures in
+    let search-result = c .before .before .before .before .before .before .before .search .result in
+    let back = c .before .before .before .before .before .before .before .before .before in
+    let wide-ensures = back .wide .ensures in
+    let args = back .before .before .before .args in
+    let pre = back .before .before .before .pre in
+    let m : search-result .weight ≢ 0 = omega arith in
+    let r = run-given _ (args .marks .now) pre search-ensures m _ (c .lowered .ensures) in
     let e = toZ-ofZ w64 (c .lowered .result) (record { sfits = c .lowered .ok }) in
-    rw e (passed (omega (arith, c .before .before .before .before .before .before .before .before .before .wide .ensures)) (passed (r .run, r .heaviest .one) r))
+    rw e (passed (omega (arith, wide-ensures)) (passed (r .run, r .heaviest .one) r))
 
 pub choose-spec : {M : Type 1} → statement M
 choose-spec =

@@ -15,7 +15,9 @@ enum-known-o-2 : tie.Need-enum-known-o-2
 enum-known-o-2 c = search needs
 
 choose-requires : tie.Need-choose-requires
-choose-requires c κs = admitted _ _ _ (rw (c .before .o2 .given .1) at (c .before .before .before .accept .ensures)) .net
+choose-requires c κs =
+    let accept-ensures = c .before .before .before .accept .ensures in
+    admitted _ _ _ (rw (c .before .o2 .given .1) at accept-ensures) .net
 
 returns : tie.Need-returns
 returns c = refused-on refusal _ _ (rw (c .before .o .given .1) at (c .before .before .before .accept .ensures))

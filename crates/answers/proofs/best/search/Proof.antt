@@ -1,4 +1,5 @@
--- `answers::search` meets its contract: the walk and the branches are the ground of the accepted net, and what the lists give of any ground they give of this one.
+-- `answers::search` meets its contract: the walk and the branches are the ground of the accepted net, and what the
+-- lists give of any ground they give of this one.
 use native.Mathlib.Omega.{arith}
 use borrow.Author.Needs.{needs}
 use Rattle.answers.proofs.Branching.{ground}
@@ -15,12 +16,16 @@ long-requires : tie.Need-long-requires
 long-requires c κs = search needs
 
 heaviest-pair-requires : tie.Need-heaviest-pair-requires
-heaviest-pair-requires c κs = (rw (c .before .before .before .before .before .before .wide .ensures .0) (ground (c .before .before .before .before .before .before .before .grounded .ensures)), omega (arith, c .long .ensures .1))
+heaviest-pair-requires c κs =
+    let wide-ensures = c .before .before .before .before .before .before .wide .ensures in
+    let grounded-ensures = c .before .before .before .before .before .before .before .grounded .ensures in
+    (rw (wide-ensures .0) (ground grounded-ensures), omega (arith, c .long .ensures .1))
 
 returns : tie.Need-returns
 returns c =
+    let grounded-ensures = c .before .before .before .before .before .before .before .before .grounded .ensures in
     let e = c .before .before .before .before .before .before .before .wide .ensures .0 in
-    rw (e, c .before .long .ensures .0) at (c .heaviest-pair .ensures (rw e (ground (c .before .before .before .before .before .before .before .before .grounded .ensures))))
+    rw (e, c .before .long .ensures .0) at (c .heaviest-pair .ensures (rw e (ground grounded-ensures)))
 
 pub search-spec : {M : Type 1} → statement M
 search-spec =

@@ -1,4 +1,5 @@
--- `lists::advance` meets its contract. The invariant: the partner is the best of the places passed, and those passed since the call are within the limit. The measure is what is left of the run.
+-- `lists::advance` meets its contract. The invariant: the partner is the best of the places passed, and those passed
+-- since the call are within the limit. The measure is what is left of the run.
 use Prim.Native.Nat.{_-_}
 use native.Mathlib.Omega.{arith}
 use Rattle.lists.specs.Partners.{Walkable, Sofar}
@@ -7,7 +8,8 @@ use Rattle.lists.proofs.across.advance.Statement.{statement}
 use Rattle.lists.proofs.across.advance.Tie as tie
 
 abbrev Inv-loop : tie.InvT-loop
-Inv-loop down name d w m e key limit j₀ node₀ j node = Walkable d down m e key × Sofar name d w down m e j node × Going d down e key limit j₀ j
+Inv-loop down name d w m e key limit j₀ node₀ j node =
+    Walkable d down m e key × Sofar name d w down m e j node × Going d down e key limit j₀ j
 
 abbrev μ-loop : tie.MeasureT-loop
 μ-loop down name d w m e key limit j₀ node₀ j node = e - j
@@ -38,9 +40,14 @@ element-copy-out-if1 c =
 
 add-if1 : tie.Need-add-if1 Inv-loop μ-loop
 add-if1 c =
+    let loop-test-taken = c .before .before .before .loop-test .taken in
     let h = c .before .before .before .before .loop .inv in
-    let n = h .0 .nodes .node _ (h .1 .low) (c .before .before .before .loop-test .taken) in
-    omega (arith, h .0 .here, h .0 .keys .small (c .before .wide .result) (omega (arith, n, c .before .wide .ensures .0)))
+    let n = h .0 .nodes .node _ (h .1 .low) loop-test-taken in
+    omega (
+      arith,
+      h .0 .here,
+      h .0 .keys .small (c .before .wide .result) (omega (arith, n, c .before .wide .ensures .0)),
+    )
 
 returns : tie.Need-returns Inv-loop μ-loop
 returns c =
@@ -61,10 +68,14 @@ loop-less c = omega arith
 
 loop-again : tie.Need-loop-again Inv-loop μ-loop
 loop-again c =
+    let loop-test-taken = c .before .before .before .before .before .loop-test .taken in
     let h = c .before .before .before .before .before .before .loop .inv in
-    let n = h .0 .nodes .node _ (h .1 .low) (c .before .before .before .before .before .loop-test .taken) in
-    let q = c .before .before .before .wide .ensures .0 in
-    (h .0, sofar-more _ _ _ _ _ _ _ _ _ _ (h .1) (c .before .before .before .before .before .loop-test .taken) q (omega (arith, n, q)) (c .prefer .ensures), going-more _ _ _ _ _ _ _ _ (h .2) q (c .before .if1 .left))
+    let n = h .0 .nodes .node _ (h .1 .low) loop-test-taken in
+    let q = c .before .before .before .wide .ensures .0 in (
+      h .0,
+      sofar-more _ _ _ _ _ _ _ _ _ _ (h .1) loop-test-taken q (omega (arith, n, q)) (c .prefer .ensures),
+      going-more _ _ _ _ _ _ _ _ (h .2) q (c .before .if1 .left),
+    )
 
 returns-2 : tie.Need-returns-2 Inv-loop μ-loop
 returns-2 c =

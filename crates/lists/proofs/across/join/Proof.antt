@@ -6,7 +6,8 @@ use Rattle.lists.proofs.across.join.Statement.{statement}
 use Rattle.lists.proofs.across.join.Tie as tie
 
 abbrev Inv-loop : tie.InvT-loop
-Inv-loop up down name ku wu d w s m e limit all₀ j₀ node₀ i₀ all j node i = Sweep name ku wu d w up down s m e limit all₀ i j node all × Joinable ku wu d w up down s m e
+Inv-loop up down name ku wu d w s m e limit all₀ j₀ node₀ i₀ all j node i =
+    Sweep name ku wu d w up down s m e limit all₀ i j node all × Joinable ku wu d w up down s m e
 
 abbrev μ-loop : tie.MeasureT-loop
 μ-loop up down name ku wu d w s m e limit all₀ j₀ node₀ i₀ all j node i = i
@@ -45,8 +46,15 @@ advance-requires c κs =
     let h = c .before .before .before .before .loop .inv in
     let q = c .before .wide .ensures .0 in
     let t = c .before .before .before .loop-test .taken in
-    let g = h .1 in
-    (record { within = g .within; nodes = g .down-nodes; keys = g .given .down-key; here = g .given .up-key .small _ (sweep-node _ _ _ _ _ _ _ _ _ _ _ _ _ _ _ _ _ (h .0) (h .1) t q) }, h .0 .sofar)
+    let g = h .1 in (
+      record {
+        within = g .within;
+        nodes = g .down-nodes;
+        keys = g .given .down-key;
+        here = g .given .up-key .small _ (sweep-node _ _ _ _ _ _ _ _ _ _ _ _ _ _ _ _ _ (h .0) (h .1) t q);
+      },
+      h .0 .sofar,
+    )
 
 try-pair-requires : tie.Need-try-pair-requires Inv-loop μ-loop
 try-pair-requires c κs =

@@ -1,4 +1,5 @@
--- `lists::try_pair` meets its contract: nothing is offered before a partner was passed, else the pair with the lower name first.
+-- `lists::try_pair` meets its contract: nothing is offered before a partner was passed, else the pair with the lower
+-- name first.
 use native.Mathlib.Omega.{arith}
 use Rattle.lists.proofs.Joining.{tried-none, tried-low, tried-high}
 use borrow.Author.Needs.{needs}
