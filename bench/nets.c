@@ -34,9 +34,19 @@ static void shuffle(uint16_t *list, size_t many, uint64_t *seed) {
     }
 }
 
-size_t make_net(int shape, size_t n, uint8_t table[12 * 4096]) {
+static uint32_t bound_of(int shape, size_t n, enum lengths lengths, const uint32_t *far) {
+    uint32_t most = 0, best = 0;
+    for (size_t i = 0; i < n; i++)
+        if (far[i] > most) most = far[i];
+    if (shape == 1) return lengths == EQUAL ? 2 * most : most;
+    for (size_t i = 0; i < n; i++)
+        if (far[i] <= most / 2 && far[i] > best) best = far[i];
+    return best;
+}
+
+size_t make_net(int shape, size_t n, enum lengths lengths, uint8_t table[12 * 4096]) {
     uint16_t name[4096], rows[4096];
-    uint32_t far[4096] = {0}, most = 0;
+    uint32_t far[4096] = {0};
     uint64_t seed = 8 * n + (uint64_t)shape;
     shuffle(name, n, &seed);
     shuffle(rows, n - 1, &seed);
@@ -44,13 +54,12 @@ size_t make_net(int shape, size_t n, uint8_t table[12 * 4096]) {
     put(table + 5, n, 3);
     for (size_t i = 1; i < n; i++) {
         size_t up = parent(shape, n, i, &seed);
-        uint32_t length = 1 + (uint32_t)(next_number(&seed) % 100);
+        uint32_t any = 1 + (uint32_t)(next_number(&seed) % 100), length = lengths == EQUAL ? 50 : any;
         uint8_t *row = table + 12 + 12 * (size_t)rows[i - 1];
         put(row, name[up], 2), put(row + 2, name[i], 2), put(row + 4, length, 4);
         put(row + 8, (uint64_t)((int64_t)(next_number(&seed) % 201) - 100), 4);
         far[i] = far[up] + length;
-        if (far[i] > most) most = far[i];
     }
-    put(table + 8, shape == 1 ? most : most / 2, 4);
+    put(table + 8, bound_of(shape, n, lengths, far), 4);
     return 12 * n;
 }

@@ -10,8 +10,12 @@ extern const char *const shape_names[SHAPES];
 /* A number from `seed`, which moves on. */
 uint64_t next_number(uint64_t *seed);
 
-/* Writes the table of a net of n nodes, 2 to 4,096: nodes under shuffled names, rows in shuffled order, lengths 1 to 100, weights -100 to 100, the
-   bound half of the longest path from the first node (of a star: the whole). Gives its size. */
-size_t make_net(int shape, size_t n, uint8_t table[12 * 4096]);
+/* Lengths 1 to 100, or all of them 50. */
+enum lengths { VARIED, EQUAL };
+
+/* Writes the table of a net of n nodes, 2 to 4,096: nodes under shuffled names, rows in shuffled order, weights -100 to 100. The bound is the longest of
+   the first node's paths that is at most half as long as its longest (of a star: the longest; twice that where all lengths are equal, so that two
+   leaves are that far apart): some pair has exactly this length. Gives the table's size. */
+size_t make_net(int shape, size_t n, enum lengths lengths, uint8_t table[12 * 4096]);
 
 #endif

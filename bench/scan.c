@@ -139,22 +139,42 @@ uint8_t scan_heaviest(const uint8_t *table, size_t table_len, const uint16_t *ma
     return 0;
 }
 
+uint8_t scan_heaviest_exact(const uint8_t *table, size_t table_len, const uint16_t *marks, size_t marks_len, int64_t answer[8]) {
+    net t;
+    paths p;
+    uint8_t number = begin(table, table_len, marks, marks_len, &t, answer);
+    if (number) return number;
+    size_t low = 0, high = 0;
+    int64_t weight = INT64_MIN;
+    for (size_t a = 0; a < t.n; a++) {
+        walk(&t, (uint16_t)a, &p);
+        for (size_t b = a + 1; b < t.n; b++)
+            if (p.length[b] == t.bound && p.weight[b] > weight) low = a, high = b, weight = p.weight[b];
+    }
+    if (weight == INT64_MIN) return refuse(answer, 21, 0);
+    refuse(answer, 0, 0);
+    answer[3] = (int64_t)low, answer[4] = (int64_t)high, answer[5] = t.bound, answer[6] = weight;
+    return 0;
+}
+
 static void put(uint8_t *to, uint64_t x, size_t bytes) {
     for (size_t i = 0; i < bytes; i++) to[i] = (uint8_t)(x >> 8 * i);
 }
 
-uint8_t scan_listing(const uint8_t *table, size_t table_len, const uint16_t *marks, size_t marks_len, int64_t floor, uint16_t from_low,
-                     uint16_t from_high, uint8_t *rows, size_t rows_len, int64_t answer[8]) {
+/* The pairs within the bound, or of exactly its length. */
+static uint8_t list(const uint8_t *table, size_t table_len, const uint16_t *marks, size_t marks_len, int exact, int64_t floor, uint16_t from_low,
+                    uint16_t from_high, uint8_t *rows, size_t rows_len, int64_t answer[8]) {
     net t;
     paths p;
     uint8_t number = begin(table, table_len, marks, marks_len, &t, answer);
     if (number) return number;
     if (rows_len < 16) return refuse(answer, 17, 0);
     size_t room = rows_len / 16, written = 0, left = 0;
+    int64_t least = exact ? t.bound : 0;
     for (size_t a = from_low; a < t.n; a++) {
         walk(&t, (uint16_t)a, &p);
         for (size_t b = a + 1; b < t.n; b++) {
-            if (p.length[b] > t.bound || p.weight[b] < floor) continue;
+            if (p.length[b] > t.bound || p.length[b] < least || p.weight[b] < floor) continue;
             if (a == from_low && b <= from_high) continue;
             if (written == room) {
                 left++;
@@ -167,6 +187,16 @@ uint8_t scan_listing(const uint8_t *table, size_t table_len, const uint16_t *mar
     refuse(answer, 0, 0);
     answer[3] = (int64_t)written, answer[4] = (int64_t)left;
     return 0;
+}
+
+uint8_t scan_listing(const uint8_t *table, size_t table_len, const uint16_t *marks, size_t marks_len, int64_t floor, uint16_t from_low,
+                     uint16_t from_high, uint8_t *rows, size_t rows_len, int64_t answer[8]) {
+    return list(table, table_len, marks, marks_len, 0, floor, from_low, from_high, rows, rows_len, answer);
+}
+
+uint8_t scan_listing_exact(const uint8_t *table, size_t table_len, const uint16_t *marks, size_t marks_len, int64_t floor, uint16_t from_low,
+                           uint16_t from_high, uint8_t *rows, size_t rows_len, int64_t answer[8]) {
+    return list(table, table_len, marks, marks_len, 1, floor, from_low, from_high, rows, rows_len, answer);
 }
 
 uint8_t scan_claim(const uint8_t *table, size_t table_len, uint16_t *marks, size_t marks_len, uint16_t run, uint16_t a, uint16_t b,

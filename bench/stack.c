@@ -6,8 +6,9 @@
 #include <stdlib.h>
 #include <string.h>
 
-enum { STACK = 2 << 20, NODES = 4096, OPS = 9, PAINT = 0xA5 };
-static const char *names[OPS] = {"(the thread itself)", "hb_accept", "hb_pair", "hb_heaviest", "hb_heads", "hb_listing", "hb_claim", "hb_commit", "hb_abort"};
+enum { STACK = 2 << 20, NODES = 4096, OPS = 11, PAINT = 0xA5 };
+static const char *names[OPS] = {"(the thread itself)", "hb_accept", "hb_pair", "hb_heaviest", "hb_heaviest_exact", "hb_heads",
+                                 "hb_listing", "hb_listing_exact", "hb_claim", "hb_commit", "hb_abort"};
 static uint8_t table[12 * NODES], page[65536];
 static uint16_t marks[NODES], heads[NODES];
 static size_t size;
@@ -19,11 +20,13 @@ static void *call(void *which) {
     case 1: hb_accept(table, size, answer); break;
     case 2: hb_pair(table, size, marks, m, 1, 2, answer); break;
     case 3: hb_heaviest(table, size, marks, m, answer); break;
-    case 4: hb_heads(table, size, heads, NODES, answer); break;
-    case 5: hb_listing(table, size, marks, m, 0, 0, 0, page, sizeof page, answer); break;
-    case 6: hb_claim(table, size, marks, m, 7, 1, 2, answer); break;
-    case 7: hb_commit(table, size, marks, m, 7, answer); break;
-    case 8: hb_abort(table, size, marks, m, 7, answer); break;
+    case 4: hb_heaviest_exact(table, size, marks, m, answer); break;
+    case 5: hb_heads(table, size, heads, NODES, answer); break;
+    case 6: hb_listing(table, size, marks, m, 0, 0, 0, page, sizeof page, answer); break;
+    case 7: hb_listing_exact(table, size, marks, m, 0, 0, 0, page, sizeof page, answer); break;
+    case 8: hb_claim(table, size, marks, m, 7, 1, 2, answer); break;
+    case 9: hb_commit(table, size, marks, m, 7, answer); break;
+    case 10: hb_abort(table, size, marks, m, 7, answer); break;
     }
     return NULL;
 }
@@ -32,7 +35,7 @@ int main(void) {
     size_t most[OPS] = {0};
     uint8_t *stack = aligned_alloc(4096, STACK);
     for (int shape = 0; shape < SHAPES; shape++) {
-        size = make_net(shape, NODES, table);
+        size = make_net(shape, NODES, VARIED, table);
         for (int op = 0; op < OPS; op++) {
             pthread_attr_t how;
             pthread_t thread;

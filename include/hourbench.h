@@ -33,6 +33,7 @@
         8  row joins a node to itself             18  path longer than the bound
         9  length out of range                    19  no free branch on the path
        10  weight out of range                    20  list of heads is not n long
+                                                  21  no pair of exactly the bound's length
    Every function begins with 1 to 12. */
 #ifndef HOURBENCH_H
 #define HOURBENCH_H
@@ -41,9 +42,9 @@
 #include <stdint.h>
 
 /* The library's version; CHANGES.md says how it moves. */
-#define HB_VERSION "1.1.0"
+#define HB_VERSION "1.2.0"
 #define HB_VERSION_MAJOR 1
-#define HB_VERSION_MINOR 1
+#define HB_VERSION_MINOR 2
 #define HB_VERSION_PATCH 0
 
 #ifdef __cplusplus
@@ -61,6 +62,10 @@ uint8_t hb_pair(const uint8_t *table, size_t table_len, const uint16_t *marks, s
    Then 13, 16. */
 uint8_t hb_heaviest(const uint8_t *table, size_t table_len, const uint16_t *marks, size_t marks_len, int64_t *answer);
 
+/* The heaviest run of exactly the bound's length; of equal weight the earlier pair. Fields: low, high, length, weight.
+   Then 13, 21. */
+uint8_t hb_heaviest_exact(const uint8_t *table, size_t table_len, const uint16_t *marks, size_t marks_len, int64_t *answer);
+
 /* Each node's head, into `heads`, which is n long. No fields. Then 20. */
 uint8_t hb_heads(const uint8_t *table, size_t table_len, uint16_t *heads, size_t heads_len, int64_t *answer);
 
@@ -70,6 +75,10 @@ uint8_t hb_heads(const uint8_t *table, size_t table_len, uint16_t *heads, size_t
    Fields: written, left. Then 13, 17. */
 uint8_t hb_listing(const uint8_t *table, size_t table_len, const uint16_t *marks, size_t marks_len, int64_t floor,
                    uint16_t from_low, uint16_t from_high, uint8_t *rows, size_t rows_len, int64_t *answer);
+
+/* The same for the pairs of exactly the bound's length. */
+uint8_t hb_listing_exact(const uint8_t *table, size_t table_len, const uint16_t *marks, size_t marks_len, int64_t floor,
+                         uint16_t from_low, uint16_t from_high, uint8_t *rows, size_t rows_len, int64_t *answer);
 
 /* Each free branch of the path between a and b becomes held by the run. Fields: claimed. Then 13, 14, 15, 18, 19. */
 uint8_t hb_claim(const uint8_t *table, size_t table_len, uint16_t *marks, size_t marks_len,

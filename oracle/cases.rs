@@ -1,5 +1,5 @@
 //! The form of a case, and the lines that answer it (README.md has both).
-use crate::net;
+use crate::net::{self, Lengths};
 use std::io::{Read, Result, Write};
 
 /// What every lent byte and every lent head holds before a call.
@@ -145,29 +145,34 @@ pub fn report(out: &mut impl Write, c: &Case) -> Result<()> {
     writeln!(out, "total {total}")
 }
 
-/// The ten lines of a case.
+/// The twelve lines of a case.
 pub fn answer(out: &mut impl Write, c: &Case) -> Result<()> {
     let t = &c.table[..];
     let mut marks = c.marks.clone();
     let pair = |m: &[u16]| fields(net::pair(t, m, c.a, c.b), "0 0 0", |(l, w, h)| format!("{l} {w} {h}"));
-    let best = |m: &[u16]| fields(net::heaviest(t, m), "0 0 0 0", |(a, b, l, w)| format!("{a} {b} {l} {w}"));
+    let run = |r: Answer<(usize, usize, u64, i64)>| fields(r, "0 0 0 0", |(a, b, l, w)| format!("{a} {b} {l} {w}"));
+    let page = |m: &[u16], lengths: Lengths| {
+        let mut rows = vec![LENT; c.room as usize];
+        let said = net::listing(t, m, lengths, c.floor.value(), c.start, &mut rows);
+        format!("{} sum {}", fields(said, "0 0", |(w, l)| format!("{w} {l}")), sum(rows.iter().map(|b| *b as u64)))
+    };
     let count = |r: Answer<usize>| fields(r, "0", |k| k.to_string());
 
     writeln!(out, "accept {}", fields(net::accept(t), "0 0", |net| format!("{} {}", net.n, net.bound)))?;
     writeln!(out, "pair {}", pair(&marks))?;
-    writeln!(out, "heaviest {}", best(&marks))?;
+    writeln!(out, "heaviest {}", run(net::heaviest(t, &marks)))?;
+    writeln!(out, "heaviest_exact {}", run(net::heaviest_exact(t, &marks)))?;
 
     let mut list = vec![LENT as u16; c.heads as usize];
     let said = fields(net::heads(t, &mut list), "", |_| String::new());
     writeln!(out, "heads {} sum {}", said, sum_marks(&list))?;
 
-    let mut page = vec![LENT; c.room as usize];
-    let said = fields(net::listing(t, &marks, c.floor.value(), c.start, &mut page), "0 0", |(w, l)| format!("{w} {l}"));
-    writeln!(out, "listing {} sum {}", said, sum(page.iter().map(|b| *b as u64)))?;
+    writeln!(out, "listing {}", page(&marks, Lengths::AtMost))?;
+    writeln!(out, "listing_exact {}", page(&marks, Lengths::Exactly))?;
 
     let said = count(net::claim(t, &mut marks, c.run, c.a, c.b));
     writeln!(out, "claim {} sum {}", said, sum_marks(&marks))?;
-    writeln!(out, "heaviest {}", best(&marks))?;
+    writeln!(out, "heaviest {}", run(net::heaviest(t, &marks)))?;
     let said = count(net::settle(t, &mut marks, c.other, 65535));
     writeln!(out, "commit {} sum {}", said, sum_marks(&marks))?;
     let said = count(net::settle(t, &mut marks, c.run, 0));

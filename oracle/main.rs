@@ -13,7 +13,7 @@ fn number(arg: Option<String>) -> u64 {
 fn usage() -> ! {
     eprintln!("usage: oracle make SEED COUNT LIMIT [worked | reports] > CASES    COUNT cases of at most LIMIT nodes (1 to 4096),");
     eprintln!("                                                                  the worked net's or the reports' first");
-    eprintln!("       oracle answer < CASES                                      ten lines for each case");
+    eprintln!("       oracle answer < CASES                                      twelve lines for each case");
     eprintln!("       oracle report < CASES                                      the report of each case's table");
     std::process::exit(2)
 }

@@ -27,11 +27,31 @@ fn plain(table: Vec<u8>, marks: &[u16]) -> Case {
 
 const N5: [Branch; 4] = [(0, 1, 4, 5), (1, 2, 3, 2), (1, 3, 6, 7), (3, 4, 2, -3)];
 
-/// Document 01's small net N5, each of its cases.
+/// Small nets for pairs of exactly B (document 02, Req 02): all lengths 0, so that all pairs tie; lengths and weights alike along
+/// a chain; branches of length 0 among others; and a star whose heaviest leaf is too near for the pair of exactly B.
+fn exact() -> Vec<Case> {
+    let of = |n: u16, bound: u32, rows: &[Branch]| {
+        Case { room: 320, floor: Floor::Least, ..plain(table(n, bound, rows), &vec![0; n as usize - 1]) }
+    };
+    let star: Vec<Branch> = (1..6).map(|x| (0, x, 0, 2)).collect();
+    let chain: Vec<Branch> = (1..7).map(|x| (x - 1, x, 1, 2)).collect();
+    let mixed = [(0, 1, 1, 3), (1, 2, 0, -1), (2, 3, 0, 1), (3, 4, 1, 3), (4, 5, 0, -3), (2, 6, 1, 3)];
+    let near = [(0, 1, 1, 9), (0, 2, 2, 1), (0, 3, 3, 1), (0, 4, 2, 1)];
+    let mut all = vec![of(6, 0, &star), of(6, 1, &star), of(7, 2, &chain)];
+    all.extend([0, 1, 2].iter().map(|b| of(7, *b, &mixed)));
+    all.extend([4, 5, 6].iter().map(|b| of(5, *b, &near)));
+    all
+}
+
+/// Document 01's small net N5, each of its cases, and Req 02's.
 pub fn worked() -> Vec<Case> {
     let n5 = |bound| plain(table(5, bound, &N5), &[0; 4]);
-    let mut all: Vec<Case> = [9, 8, 10, 2, 1].iter().map(|b| n5(*b)).collect();
+    let mut all: Vec<Case> = [9, 8, 10, 2, 1, 7, 5].iter().map(|b| n5(*b)).collect();
     all.push(Case { floor: Floor::Number(10), ..n5(9) });
+    // Pairs of exactly B, by their weights: 0-2 has 7, 1-4 has 4, 2-3 has 9.
+    for (bound, floor) in [(7, 7), (7, 8), (8, 4), (8, 5), (9, 9), (9, 10), (5, -9)] {
+        all.push(Case { floor: Floor::Number(floor), ..n5(bound) });
+    }
     all.push(Case { room: 16, ..n5(9) });
     all.push(Case { a: 2, b: 4, ..n5(9) });
     all.push(Case { run: 8, a: 1, b: 3, marks: vec![0, 7, 7, 0], ..n5(9) });
@@ -49,6 +69,7 @@ pub fn worked() -> Vec<Case> {
         long[2].2 = length;
         all.push(plain(table(5, 8, &long), &[0; 4]));
     }
+    all.extend(exact());
     all
 }
 

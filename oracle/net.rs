@@ -219,6 +219,22 @@ pub fn heaviest(s: &[u8], marks: &[u16]) -> Result<(usize, usize, u64, i64), Ref
     best.ok_or((16, 0))
 }
 
+/// The heaviest pair of length exactly B, the earlier among equals (document 02, Req 02).
+pub fn heaviest_exact(s: &[u8], marks: &[u16]) -> Result<(usize, usize, u64, i64), Refused> {
+    let net = accept(s)?;
+    net.marks_fit(marks)?;
+    let mut best: Option<(usize, usize, u64, i64)> = None;
+    for a in 0..net.n {
+        let f = net.from(a, marks);
+        for b in (a + 1..net.n).filter(|b| f.length[*b] == net.bound) {
+            if best.map_or(true, |old| f.weight[b] > old.3) {
+                best = Some((a, b, f.length[b], f.weight[b]));
+            }
+        }
+    }
+    best.ok_or((21, 0))
+}
+
 /// Each node's head into the lent list.
 pub fn heads(s: &[u8], list: &mut [u16]) -> Result<(), Refused> {
     let net = accept(s)?;
@@ -231,8 +247,22 @@ pub fn heads(s: &[u8], list: &mut [u16]) -> Result<(), Refused> {
     Ok(())
 }
 
+/// The lengths that a listing takes: at most B, or exactly B (document 02, Req 02).
+#[derive(Clone, Copy)]
+pub enum Lengths {
+    AtMost,
+    Exactly,
+}
+
 /// The page after the starting pair into the lent bytes: rows written, rows left over.
-pub fn listing(s: &[u8], marks: &[u16], floor: i64, start: (u16, u16), page: &mut [u8]) -> Result<(usize, usize), Refused> {
+pub fn listing(
+    s: &[u8],
+    marks: &[u16],
+    lengths: Lengths,
+    floor: i64,
+    start: (u16, u16),
+    page: &mut [u8],
+) -> Result<(usize, usize), Refused> {
     let net = accept(s)?;
     net.marks_fit(marks)?;
     if page.len() < 16 {
@@ -243,7 +273,11 @@ pub fn listing(s: &[u8], marks: &[u16], floor: i64, start: (u16, u16), page: &mu
         let f = net.from(a, marks);
         for b in a + 1..net.n {
             let after = (a, b) > (start.0 as usize, start.1 as usize);
-            if !after || f.length[b] > net.bound || f.weight[b] < floor {
+            let taken = match lengths {
+                Lengths::AtMost => f.length[b] <= net.bound,
+                Lengths::Exactly => f.length[b] == net.bound,
+            };
+            if !after || !taken || f.weight[b] < floor {
                 continue;
             }
             if 16 * (written + 1) > page.len() {

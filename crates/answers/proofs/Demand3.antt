@@ -1,6 +1,7 @@
--- DEMAND 3 of the operation listing: for one table, one set of marks and any floor, calls from (0, 0) until none is
--- left, each lending 16 bytes or more, each going on after the last row given, write the whole listing: every
--- qualifying pair, lower node first, each once, in order. Over any length test; the listing's own is "at most B".
+-- DEMAND 3 of the operations listing and listing_exact: for one table, one set of marks and any floor, calls from (0,
+-- 0) until none is left, each lending 16 bytes or more, each going on after the last row given, write the whole
+-- listing: every qualifying pair, lower node first, each once, in order. It is shown once, over any length test; both
+-- modes cite it at the end, the listing with "at most B", listing_exact with "exactly B".
 use Prim.Native.Nat.{ℕ, zero, suc, _+_, _-_, _≤_, _<_}
 use mathlib.Core.Path.{_≡_, sym, ap, _∙_}
 use mathlib.Core.Bool.{false}
@@ -33,6 +34,20 @@ use Rattle.answers.proofs.Bounds.{passes-fits}
 -- what a listing of the table s considers
 abbrev pub Considered : (ℕ → Type 0) → List ℕ → List ℕ → ℤ → Entry → Type 0
 Considered Within s marks floor = Qualifies (PathOf s marks (nodesOf s)) Within floor (nodesOf s)
+
+-- where each call has an outcome, as the code's contract gives one, the calls from (0, 0) come to an end, none of them
+-- is refused, and what they wrote is the listing
+abbrev pub JoinsUp : (ℕ → Type 0) → List ℕ → List ℕ → ℤ → Type 0
+JoinsUp Within s marks floor =
+    (lent : ℕ → List ℕ)
+    → ((i : ℕ) → 16 ≤ length (lent i))
+    → ((i low high : ℕ) → low < 65536 → high < 65536
+    → (x : Outcome) × ListingWithin Within s marks floor low high (lent i) x)
+    → (joined : List ℕ)
+    × (whole : List Entry)
+    × Asks Within s marks floor 0 0 joined
+    × Listing (Considered Within s marks floor) whole
+    × (joined ≡ rows whole)
 
 module _ (Within : ℕ → Type 0) (s marks : List ℕ) (floor : ℤ) where
   -- the calls' bytes are the rows of calls as the pages crate has them
@@ -132,19 +147,20 @@ module _ (Within : ℕ → Type 0) (s marks : List ℕ) (floor : ℤ) where
         → ListingWithin Within s marks floor low high old x → (x .refused ≡ false) × (x .number ≡ 0)
     answered {old = old} h p = let g = settled h (settled m (begins-rest (refusal old) s a p)) in (g .taken, g .number)
 
-    -- Where each call has an outcome, as the code's contract gives one, the calls from (0, 0) come to an end, none of
-    -- them is refused, and what they wrote is the listing.
-    pub demand-3 : (lent : ℕ → List ℕ) → ((i : ℕ) → 16 ≤ length (lent i))
-        → ((i low high : ℕ) → low < 65536 → high < 65536
-        → (x : Outcome) × ListingWithin Within s marks floor low high (lent i) x)
-        → (joined : List ℕ)
-        × (whole : List Entry)
-        × Asks Within s marks floor 0 0 joined
-        × Listing (Considered Within s marks floor) whole
-        × (joined ≡ rows whole)
+    pub demand-3 : JoinsUp Within s marks floor
     demand-3 lent enough call =
         let t = come-to-an-end lent enough
         (λ i low high p q. let x = call i low high p q in (x .0, x .1, answered (enough i) (x .1) .1)) 0 0 (omega arith)
         (omega arith) in
         let w = there-is (t .1) in
         (t .0, w .0, t .1, w .1, join-up (t .1) (w .1))
+
+-- BOTH MODES: of an accepted table with a mark for each branch, the pairs within the bound, and those of exactly its
+-- length.
+module _ (s marks : List ℕ) (floor : ℤ)
+    (a : Accepts s (accepted (nodesOf s) (boundOf s))) (m : length marks ≡ nodesOf s - 1) where
+  pub listing-joins-up : JoinsUp (λ l. l ≤ boundOf s) s marks floor
+  listing-joins-up = demand-3 (λ l. l ≤ boundOf s) s marks floor a m
+
+  pub listing-exact-joins-up : JoinsUp (λ l. l ≡ boundOf s) s marks floor
+  listing-exact-joins-up = demand-3 (λ l. l ≡ boundOf s) s marks floor a m

@@ -8,7 +8,7 @@ use lib.IntN.{ℤ}
 use lib.ListN.{length, length-append}
 use Rattle.pages.specs.Listing.{Entry, first, second, Before, In, at, past, Rising, more}
 use Rattle.pages.proofs.Rows.{rows-length}
-use Rattle.answers.specs.Listing.{Outcome, ListingOf}
+use Rattle.answers.specs.Listing.{Outcome, ListingWithin}
 use Rattle.answers.proofs.ListingOnly.{listing-page}
 
 -- a pair's place among all pairs of nodes below 4,096
@@ -28,10 +28,10 @@ rising-few (x ∷ l) b m h (more before r) p =
     (λ e i. (p e (past i) .0, omega (arith, later x e (here .0) (before e i)), p e (past i) .2)) in
     omega (arith, here .1, rest)
 
-pub listing-few : (s marks : List ℕ) (floor : ℤ) (low high : ℕ) (old : List ℕ) (x : Outcome) → x .number ≡ 0
-    → ListingOf s marks floor low high old x → x .written + x .left ≤ 16777216
-listing-few s marks floor low high old x z p =
-    let n = listing-page _ s marks floor low high old x z p in
+pub listing-few : (Within : ℕ → Type 0) (s marks : List ℕ) (floor : ℤ) (low high : ℕ) (old : List ℕ) (x : Outcome)
+    → x .number ≡ 0 → ListingWithin Within s marks floor low high old x → x .written + x .left ≤ 16777216
+listing-few Within s marks floor low high old x z p =
+    let n = listing-page Within s marks floor low high old x z p in
     let g = n .1 .page in
     let few = rising-few (g .rows) 0 16777216 (omega arith) (g .all .rising)
     (λ e i.
@@ -39,8 +39,8 @@ listing-few s marks floor low high old x z p =
     (omega (arith, q .node, n .0 .few), omega arith, omega (arith, q .pair, q .node, n .0 .few))) in
     omega (arith, n .1 .count, g .rest, few)
 
-pub listing-room : (s marks : List ℕ) (floor : ℤ) (low high : ℕ) (old : List ℕ) (x : Outcome) → x .number ≡ 0
-    → ListingOf s marks floor low high old x → 16 * x .written ≤ length (x .bytes)
-listing-room s marks floor low high old x z p =
-    let g = listing-page _ s marks floor low high old x z p .1 in
+pub listing-room : (Within : ℕ → Type 0) (s marks : List ℕ) (floor : ℤ) (low high : ℕ) (old : List ℕ) (x : Outcome)
+    → x .number ≡ 0 → ListingWithin Within s marks floor low high old x → 16 * x .written ≤ length (x .bytes)
+listing-room Within s marks floor low high old x z p =
+    let g = listing-page Within s marks floor low high old x z p .1 in
     omega (arith, g .count, simp (length-append, rows-length) at (ap length (g .bytes)))

@@ -39,9 +39,9 @@ gives-alike f g p =
       is = p .is;
     }
 
-module _ (Within : ℕ → Type 0) (s marks marks′ : List ℕ) (h : Alike marks marks′)
+module _ (none : ℕ) (Within : ℕ → Type 0) (s marks marks′ : List ℕ) (h : Alike marks marks′)
     (e : length marks ≡ length marks′) where
-  goes-alike : {n : ℕ} {x : Outcome} → Goes Within s n marks x → Goes Within s n marks′ x
+  goes-alike : {n : ℕ} {x : Outcome} → Goes none Within s n marks x → Goes none Within s n marks′ x
   goes-alike {n} p =
       let f = runs-alike Within s marks marks′ n h in
       let g = runs-alike Within s marks′ marks n (flip marks marks′ h) in
@@ -49,10 +49,10 @@ module _ (Within : ℕ → Type 0) (s marks marks′ : List ℕ) (h : Alike mark
       (unless-map (λ o. o)
       (λ _. unless-iff (λ t. (t .0, f (t .0) (t .1))) (λ t. (t .0, g (t .0) (t .1))) (gives-alike f g)) p)
 
-  heaviest-alike : {x : Outcome} → HeaviestWithin Within s marks x → HeaviestWithin Within s marks′ x
+  heaviest-alike : {x : Outcome} → HeaviestWithin none Within s marks x → HeaviestWithin none Within s marks′ x
   heaviest-alike p =
       tested-map (λ o. o) refusal s (λ _. first-bad-map (λ o. o) (λ _. unless-map (λ o. o) (λ _. goes-alike))) p
 
-  pub heaviest-holders-never-show : (x y : Outcome) → HeaviestWithin Within s marks x → HeaviestWithin Within s marks′ y
-      → x ≡ y
-  heaviest-holders-never-show x y p q = heaviest-within-only Within s marks′ x y (heaviest-alike p) q
+  pub heaviest-holders-never-show : (x y : Outcome) → HeaviestWithin none Within s marks x
+      → HeaviestWithin none Within s marks′ y → x ≡ y
+  heaviest-holders-never-show x y p q = heaviest-within-only none Within s marks′ x y (heaviest-alike p) q

@@ -12,7 +12,16 @@ use Rattle.table.specs.Refuse.{Only}
 use Rattle.table.proofs.Refusals.{unless-only}
 use Rattle.tree.proofs.Begins.{begins-only}
 use Rattle.pages.specs.Listing.{Entry, Before, first, second}
-use Rattle.answers.specs.Heaviest.{refusal, found, AtLeast, Heaviest, Gives, HeaviestWithin, HeaviestOf}
+use Rattle.answers.specs.Heaviest.{
+  refusal,
+  found,
+  AtLeast,
+  Heaviest,
+  Gives,
+  HeaviestWithin,
+  HeaviestOf,
+  HeaviestExactOf,
+}
 
 pub level : (y z : ℤ) → y ≤ℤ z → z ≤ℤ y → y ≡ z
 level (pos m) (pos n) h k = ap pos (omega (arith, leb→le m n (h .le), leb→le n m (k .le)))
@@ -50,8 +59,12 @@ gives-only : (P : Entry → Type 0) → Only (Gives P)
 gives-only P x y p q =
     p .is ∙ ap found (heaviest-run-only P (p .run) (q .run) (p .heaviest) (q .heaviest)) ∙ sym (q .is)
 
-pub heaviest-within-only : (Within : ℕ → Type 0) (s marks : List ℕ) → Only (HeaviestWithin Within s marks)
-heaviest-within-only Within s marks = begins-only refusal s (unless-only (unless-only (gives-only _)))
+pub heaviest-within-only : (none : ℕ) (Within : ℕ → Type 0) (s marks : List ℕ)
+    → Only (HeaviestWithin none Within s marks)
+heaviest-within-only none Within s marks = begins-only refusal s (unless-only (unless-only (gives-only _)))
 
 pub heaviest-only : (s marks : List ℕ) → Only (HeaviestOf s marks)
-heaviest-only s = heaviest-within-only _ s
+heaviest-only s = heaviest-within-only 16 _ s
+
+pub heaviest-exact-only : (s marks : List ℕ) → Only (HeaviestExactOf s marks)
+heaviest-exact-only s = heaviest-within-only 21 _ s

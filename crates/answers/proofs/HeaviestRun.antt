@@ -22,8 +22,9 @@ use Rattle.answers.specs.Heaviest.{found, Runs, AtLeast, Gives}
 equally : {a b : ℕ} {y z : ℤ} → y ≡ z → Diff a b z → Diff a b y
 equally e h = rw e h
 
-module _ (s marks : List ℕ) {n bound : ℕ} (net : Net s n) {b : Best} (h : BestPair (PathOf s marks n) n bound b) where
-  -- a pair within the bound, as the lists carry it, is beaten
+module _ (s marks : List ℕ) {n : ℕ} {Within : ℕ → Type 0} (net : Net s n) {b : Best}
+    (h : BestPair (PathOf s marks n) n Within b) where
+  -- a pair within the length test, as the lists carry it, is beaten
   record Beaten (f : Entry) : Type 0 where
     one : Best
     length : one .length ≡ lift + f .length
@@ -33,7 +34,7 @@ module _ (s marks : List ℕ) {n bound : ℕ} (net : Net s n) {b : Best} (h : Be
     near : lift ≤ one .weight + 8589934592
     less : Le one b
 
-  beaten : (f : Entry) → Runs (λ l. l ≤ bound) s marks n f → Beaten f
+  beaten : (f : Entry) → Runs Within s marks n f → Beaten f
   beaten f p =
       let t = h .beats (f .low) (f .high) (p .pair) (p .node) in
       let c = t .1 in
@@ -46,17 +47,17 @@ module _ (s marks : List ℕ) {n bound : ℕ} (net : Net s n) {b : Best} (h : Be
         low = c .low;
         high = c .high;
         near = c .near-low;
-        less = t .2 (omega (arith, c .length, p .short));
+        less = t .2 (rw (← e) (p .short));
       }
 
-  pub none-within : b .weight ≡ 0 → (e : Entry) × Runs (λ l. l ≤ bound) s marks n e → ⊥
+  pub none-within : b .weight ≡ 0 → (e : Entry) × Runs Within s marks n e → ⊥
   none-within z e = let t = beaten (e .0) (e .1) in omega (arith, t .near, t .less .weight)
 
-  pub is-pair : b .weight ≢ 0 → Carried (PathOf s marks n) n (b .low) (b .high) b × (b .length ≤ bound + lift)
+  pub is-pair : b .weight ≢ 0 → (c : Carried (PathOf s marks n) n (b .low) (b .high) b) × Within (c .l)
   is-pair m = pick (h .comes)
     where
-      pick : (b ≡ best4 0 0 0 0) ⊎ (Carried (PathOf s marks n) n (b .low) (b .high) b × (b .length ≤ bound + lift))
-          → Carried (PathOf s marks n) n (b .low) (b .high) b × (b .length ≤ bound + lift)
+      pick : (b ≡ best4 0 0 0 0) ⊎ ((c : Carried (PathOf s marks n) n (b .low) (b .high) b) × Within (c .l))
+          → (c : Carried (PathOf s marks n) n (b .low) (b .high) b) × Within (c .l)
       pick (inl e) = absurd (m (ap (λ x. x .weight) e))
       pick (inr c) = c
 
@@ -64,14 +65,17 @@ module _ (s marks : List ℕ) {n bound : ℕ} (net : Net s n) {b : Best} (h : Be
   pub nodes-fit : n ≤ 4096 → b .weight ≢ 0 → (b .low < 4096) × (b .high < 4096)
   nodes-fit l m = let c = is-pair m .0 in (omega (arith, c .lower, c .fits), omega (arith, c .fits))
 
-  pub length-fits : b .weight ≢ 0 → (lift ≤ b .length) × (b .length ≤ bound + lift)
-  length-fits m = let c = is-pair m in (omega (arith, c .0 .length), c .1)
+  pub length-fits : b .weight ≢ 0 → (lift ≤ b .length) × Within (b .length - lift)
+  length-fits m =
+      let c = is-pair m in
+      let e : b .length - lift ≡ c .0 .l = omega (arith, c .0 .length) in
+      (omega (arith, c .0 .length), rw e (c .1))
 
   pub weight-fits : b .weight ≢ 0 → (lift ≤ b .weight + 8589934592) × (b .weight < lift + 8589934592)
   weight-fits m = let c = is-pair m .0 in (c .near-low, c .near-high)
 
   pub run-given : b .weight ≢ 0 → (z : ℤ) → LoweredOf (b .weight + 8589934592 - lift) z
-      → Gives (Runs (λ l. l ≤ bound) s marks n) (found (entry (b .low) (b .high) (b .length - lift) z))
+      → Gives (Runs Within s marks n) (found (entry (b .low) (b .high) (b .length - lift) z))
   run-given m z lo = record { run = e; heaviest = record { one = passes; best = best }; is = refl }
     where
       e : Entry
@@ -87,17 +91,17 @@ module _ (s marks : List ℕ) {n bound : ℕ} (net : Net s n) {b : Best} (h : Be
           → PathOf s marks n (b .low) (b .high) (b .length - lift) z
       path i j p = rw (i, j) p
 
-      passes : Runs (λ l. l ≤ bound) s marks n e
+      passes : Runs Within s marks n e
       passes =
           record {
             pair = c .lower;
             node = c .fits;
             path = path (omega (arith, c .length)) (diff-only heavy (c .weight)) (c .value);
-            short = omega (arith, is-pair m .1);
+            short = length-fits m .1;
             heavy = tt;
           }
 
-      best : (f : Entry) → Runs (λ l. l ≤ bound) s marks n f → AtLeast e f
+      best : (f : Entry) → Runs Within s marks n f → AtLeast e f
       best f p =
           record {
             weight = order-back (t .weight) heavy (omega (arith, o .weight));

@@ -16,7 +16,7 @@ use Rattle.pages.specs.Passes.{Qualifies}
 use Rattle.pages.specs.Calls.{Paged}
 use Rattle.pages.proofs.Only.{paged-only}
 use Rattle.answers.specs.PathOf.{PathOf}
-use Rattle.answers.specs.Listing.{Outcome, refusal, outcome, Lists, ListingWithin, ListingOf}
+use Rattle.answers.specs.Listing.{Outcome, refusal, outcome, Lists, ListingWithin, ListingOf, ListingExactOf}
 use Rattle.answers.specs.declared.Listed.{Listed}
 use Rattle.answers.specs.declared.Listed.the-variants.{Rows, Refused}
 
@@ -36,6 +36,10 @@ listing-within-only Within s marks floor low high old =
 pub listing-only : (s marks : List ℕ) (floor : ℤ) (low high : ℕ) (old : List ℕ)
     → Only (ListingOf s marks floor low high old)
 listing-only s = listing-within-only _ s
+
+pub listing-exact-only : (s marks : List ℕ) (floor : ℤ) (low high : ℕ) (old : List ℕ)
+    → Only (ListingExactOf s marks floor low high old)
+listing-exact-only s = listing-within-only _ s
 
 -- so the promise determines the answer itself: an outcome is that of one answer
 pub listed-one : (x y : Listed) (l m : List ℕ) → outcome x l ≡ outcome y m → x ≡ y

@@ -1,4 +1,4 @@
--- The operation heaviest: refusals 1 to 12, then 13 and 16; then the heaviest run.
+-- The operations heaviest and heaviest_exact: refusals 1 to 12, then 13, then 16 or 21; then the heaviest run.
 use Prim.Native.Nat.{ℕ, _-_, _≤_}
 use mathlib.Core.Path.{_≡_}
 use mathlib.Core.List.{List}
@@ -54,16 +54,19 @@ pub record Gives (P : Entry → Type 0) (o : Outcome) : Type 0 where
   pub heaviest : Heaviest P run
   pub is : o ≡ found run
 
--- 13 and 16, then the heaviest run, of a net of n nodes under any length test
-abbrev pub Goes : (ℕ → Type 0) → List ℕ → ℕ → List ℕ → Outcome → Type 0
-Goes Within s n marks =
+-- 13, then `none` where no pair is within the length test, then the heaviest run, of a net of n nodes
+abbrev pub Goes : ℕ → (ℕ → Type 0) → List ℕ → ℕ → List ℕ → Outcome → Type 0
+Goes none Within s n marks =
     Unless Outcome (refusal 13 0) (length marks ≡ n - 1)
-    (Unless Outcome (refusal 16 0) ((e : Entry) × Runs Within s marks n e)
+    (Unless Outcome (refusal none 0) ((e : Entry) × Runs Within s marks n e)
     (Gives (Runs Within s marks n)))
 
--- the whole promise, under any length test; and heaviest's own: at most B
-abbrev pub HeaviestWithin : (ℕ → Type 0) → List ℕ → List ℕ → Outcome → Type 0
-HeaviestWithin Within s marks = Begins Outcome refusal s (Goes Within s (nodesOf s) marks)
+-- the whole promise, under any length test; heaviest's own: 16, at most B; and heaviest_exact's: 21, exactly B
+abbrev pub HeaviestWithin : ℕ → (ℕ → Type 0) → List ℕ → List ℕ → Outcome → Type 0
+HeaviestWithin none Within s marks = Begins Outcome refusal s (Goes none Within s (nodesOf s) marks)
 
 abbrev pub HeaviestOf : List ℕ → List ℕ → Outcome → Type 0
-HeaviestOf s = HeaviestWithin (λ l. l ≤ boundOf s) s
+HeaviestOf s = HeaviestWithin 16 (λ l. l ≤ boundOf s) s
+
+abbrev pub HeaviestExactOf : List ℕ → List ℕ → Outcome → Type 0
+HeaviestExactOf s = HeaviestWithin 21 (λ l. l ≡ boundOf s) s

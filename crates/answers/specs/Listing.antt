@@ -1,4 +1,4 @@
--- The operation listing: refusals 1 to 12, then 13 and 17; then the page.
+-- The operations listing and listing_exact: refusals 1 to 12, then 13 and 17; then the page.
 use Prim.Native.Nat.{ℕ, _-_, _≤_}
 use mathlib.Core.Path.{_≡_}
 use mathlib.Core.Bool.{Bool, true, false}
@@ -47,10 +47,13 @@ Goes Within s n marks floor low high old =
     (Unless Outcome (refusal old 17 0) (16 ≤ length old)
     (Lists (Qualifies (PathOf s marks n) Within floor n) low high old))
 
--- the whole promise, under any length test; and the listing's own: at most B
+-- the whole promise, under any length test; the listing's own: at most B; and listing_exact's: exactly B
 abbrev pub ListingWithin : (ℕ → Type 0) → List ℕ → List ℕ → ℤ → ℕ → ℕ → List ℕ → Outcome → Type 0
 ListingWithin Within s marks floor low high old =
     Begins Outcome (refusal old) s (Goes Within s (nodesOf s) marks floor low high old)
 
 abbrev pub ListingOf : List ℕ → List ℕ → ℤ → ℕ → ℕ → List ℕ → Outcome → Type 0
 ListingOf s = ListingWithin (λ l. l ≤ boundOf s) s
+
+abbrev pub ListingExactOf : List ℕ → List ℕ → ℤ → ℕ → ℕ → List ℕ → Outcome → Type 0
+ListingExactOf s = ListingWithin (λ l. l ≡ boundOf s) s

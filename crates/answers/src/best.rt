@@ -1,11 +1,14 @@
-// The operation heaviest: of the pairs within the bound the one of greatest weight; among equals the shorter, then the
-// earlier pair.
-ghost use Prim.Native.Nat.{_≤_};
+// The operations heaviest and heaviest_exact: of the pairs within the bound, or of exactly its length, the one of
+// greatest weight; among equals the shorter, then the earlier pair.
+ghost use Prim.Native.Nat.{_<_};
+ghost use Rattle.table.specs.Header.{boundOf};
 ghost use Rattle.tree.specs.Net.{Net};
+ghost use Rattle.limits.specs.Fits.{Within, Fits};
 ghost use Rattle.places.specs.BestPair.{BestPair};
-ghost use Rattle.answers.specs.Heaviest.{outcome, Goes, HeaviestOf};
+ghost use Rattle.answers.specs.Heaviest.{outcome, Goes, HeaviestWithin, HeaviestOf, HeaviestExactOf};
 ghost use Rattle.answers.specs.PathOf.{PathOf};
 use crate::ground::grounded;
+use limits::Limit;
 use lists::Best;
 use table::Refusal;
 use tree::Acceptance;
@@ -22,9 +25,10 @@ pub enum Run {
 }
 
 // The best pair of an accepted net, its length and weight lifted by 2^40; weight 0 is none.
-fn search(s: &[u8], marks: &[u16], nodes: u16, bound: u32) -> Best
+fn search(s: &[u8], marks: &[u16], nodes: u16, limit: Limit) -> Best
     requires { ⌜ Net (now s) nodes ⌝ }
-    ensures { λ r. ⌜ BestPair (PathOf (now (s .entry)) (now (marks .entry)) nodes) nodes bound r ⌝ }
+    requires { ⌜ limit .most < 4294967296 ⌝ }
+    ensures { λ r. ⌜ BestPair (PathOf (now (s .entry)) (now (marks .entry)) nodes) nodes (Fits limit) r ⌝ }
 {
     let mut parent: [u16; 4096] = [4096; 4096];
     let mut order: [u16; 4096] = [0; 4096];
@@ -42,27 +46,35 @@ fn search(s: &[u8], marks: &[u16], nodes: u16, bound: u32) -> Best
         &mut bw,
     );
     let n = arrays::wide(nodes);
-    places::heaviest_pair(&parent, &order, &place, &bl, &bw, n, arrays::long(bound))
+    places::heaviest_pair(&parent, &order, &place, &bl, &bw, n, limit)
 }
 
-// 13 and 16, then the heaviest run, of an accepted net.
-fn choose(s: &[u8], marks: &[u16], nodes: u16, bound: u32) -> Run
+// 13, then `none` where no pair fits the limit, then the heaviest run, of an accepted net.
+fn choose(s: &[u8], marks: &[u16], nodes: u16, limit: Limit, none: u8) -> Run
     requires { ⌜ Net (now s) nodes ⌝ }
-    ensures { λ r. ⌜ Goes (λ l. l ≤ bound) (now (s .entry)) nodes (now (marks .entry)) (outcome r) ⌝ }
+    requires { ⌜ limit .most < 4294967296 ⌝ }
+    ensures { λ r. ⌜ Goes none (Fits limit) (now (s .entry)) nodes (now (marks .entry)) (outcome r) ⌝ }
 {
     let n = arrays::wide(nodes);
     if marks.len() != n - 1 {
         return Run::Refused(Refusal { number: 13, row: 0 });
     }
-    let b = search(s, marks, nodes, bound);
+    let b = search(s, marks, nodes, limit);
     if b.weight == 0 {
-        return Run::Refused(Refusal { number: 16, row: 0 });
+        return Run::Refused(Refusal {
+            number: none,
+            row: 0,
+        });
     }
+    let low = b.low as u16;
+    let high = b.high as u16;
+    let length = (b.length - 1099511627776) as u32;
+    let weight = table::lowered(b.weight + 8589934592 - 1099511627776);
     Run::Between {
-        low: b.low as u16,
-        high: b.high as u16,
-        length: (b.length - 1099511627776) as u32,
-        weight: table::lowered(b.weight + 8589934592 - 1099511627776),
+        low,
+        high,
+        length,
+        weight,
     }
 }
 
@@ -70,9 +82,31 @@ fn choose(s: &[u8], marks: &[u16], nodes: u16, bound: u32) -> Run
 pub fn heaviest(s: &[u8], marks: &[u16]) -> Run
     ensures { λ r. ⌜ HeaviestOf (now (s .entry)) (now (marks .entry)) (outcome r) ⌝ }
 {
+    heaviest_in_mode(s, marks, false, 16)
+}
+
+// The heaviest of exactly the bound's length.
+pub fn heaviest_exact(s: &[u8], marks: &[u16]) -> Run
+    ensures { λ r. ⌜ HeaviestExactOf (now (s .entry)) (now (marks .entry)) (outcome r) ⌝ }
+{
+    heaviest_in_mode(s, marks, true, 21)
+}
+
+// Both: whether the bound is meant exactly, and what no such pair is refused by.
+fn heaviest_in_mode(s: &[u8], marks: &[u16], exact: bool, none: u8) -> Run
+    ensures { λ r. ⌜ HeaviestWithin none (Within exact (boundOf (now (s .entry)))) (now (s .entry)) (now (marks .entry))
+        (outcome r) ⌝ }
+{
     let o = tree::accept(s);
     match o {
         Acceptance::Refused(why) => Run::Refused(why),
-        Acceptance::Accepted { nodes, bound } => choose(s, marks, nodes, bound),
+        Acceptance::Accepted { nodes, bound } => {
+            let most = arrays::long(bound);
+            let limit = Limit {
+                most: most,
+                exact: exact,
+            };
+            choose(s, marks, nodes, limit, none)
+        }
     }
 }

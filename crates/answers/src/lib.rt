@@ -6,11 +6,14 @@ mod scan;
 
 pub use best::Run;
 pub use best::heaviest;
+pub use best::heaviest_exact;
 pub use between::PairAnswer;
 pub use between::pair;
-ghost use Prim.Native.Nat.{_≤_};
+ghost use Rattle.table.specs.Header.{boundOf};
 ghost use Rattle.tree.specs.Net.{Net};
-ghost use Rattle.answers.specs.Listing.{outcome, Goes, ListingOf};
+ghost use Rattle.limits.specs.Fits.{Within, Fits};
+ghost use Rattle.answers.specs.Listing.{outcome, Goes, ListingWithin, ListingOf, ListingExactOf};
+use limits::Limit;
 use table::Refusal;
 use tree::Acceptance;
 
@@ -26,19 +29,48 @@ pub fn listing(s: &[u8], marks: &[u16], floor: i64, low: u16, high: u16, rows: &
     ensures { λ r. ⌜ ListingOf (now (s .entry)) (now (marks .entry)) floor low high (now (rows .entry))
         (outcome r (now (rows .exit))) ⌝ }
 {
+    listing_in_mode(s, marks, false, floor, low, high, rows)
+}
+
+// The same of the pairs of exactly the bound's length.
+pub fn listing_exact(
+    s: &[u8],
+    marks: &[u16],
+    floor: i64,
+    low: u16,
+    high: u16,
+    rows: &mut [u8],
+) -> Listed
+    ensures { λ r. ⌜ ListingExactOf (now (s .entry)) (now (marks .entry)) floor low high (now (rows .entry))
+        (outcome r (now (rows .exit))) ⌝ }
+{
+    listing_in_mode(s, marks, true, floor, low, high, rows)
+}
+
+// Both: whether the bound is meant exactly.
+fn listing_in_mode(
+    s: &[u8],
+    marks: &[u16],
+    exact: bool,
+    floor: i64,
+    low: u16,
+    high: u16,
+    rows: &mut [u8],
+) -> Listed
+    ensures { λ r. ⌜ ListingWithin (Within exact (boundOf (now (s .entry)))) (now (s .entry)) (now (marks .entry)) floor
+        low high (now (rows .entry)) (outcome r (now (rows .exit))) ⌝ }
+{
     let o = tree::accept(s);
     match o {
         Acceptance::Refused(why) => Listed::Refused(why),
-        Acceptance::Accepted { nodes, bound } => go_on(
-            s,
-            marks,
-            nodes,
-            bound,
-            floor,
-            low,
-            high,
-            rows,
-        ),
+        Acceptance::Accepted { nodes, bound } => {
+            let most = arrays::long(bound);
+            let limit = Limit {
+                most: most,
+                exact: exact,
+            };
+            go_on(s, marks, nodes, limit, floor, low, high, rows)
+        }
     }
 }
 
@@ -47,15 +79,15 @@ fn go_on(
     s: &[u8],
     marks: &[u16],
     nodes: u16,
-    bound: u32,
+    limit: Limit,
     floor: i64,
     low: u16,
     high: u16,
     rows: &mut [u8],
 ) -> Listed
     requires { ⌜ Net (now s) nodes ⌝ }
-    ensures { λ r. ⌜ Goes (λ l. l ≤ bound) (now (s .entry)) nodes (now (marks .entry)) floor low high
-        (now (rows .entry)) (outcome r (now (rows .exit))) ⌝ }
+    ensures { λ r. ⌜ Goes (Fits limit) (now (s .entry)) nodes (now (marks .entry)) floor low high (now (rows .entry))
+        (outcome r (now (rows .exit))) ⌝ }
 {
     let n = arrays::wide(nodes);
     if marks.len() != n - 1 {
@@ -64,7 +96,7 @@ fn go_on(
     if rows.len() < 16 {
         return Listed::Refused(Refusal { number: 17, row: 0 });
     }
-    let k = scan::page(s, marks, nodes, bound, floor, low, high, rows);
+    let k = scan::page(s, marks, nodes, limit, floor, low, high, rows);
     let written = k.given;
     let left = k.left;
     Listed::Rows { written, left }

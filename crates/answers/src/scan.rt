@@ -1,13 +1,14 @@
 // The scan of an accepted net: for each first node from the start's on, the paths to all nodes, and of the second nodes
 // those that pass.
-ghost use Prim.Native.Nat.{_≤_};
 ghost use Rattle.tree.specs.Net.{Net};
+ghost use Rattle.limits.specs.Fits.{Fits};
 ghost use Rattle.pages.specs.Passes.{Qualifies};
 ghost use Rattle.pages.specs.Calls.{Paged};
 ghost use Rattle.paths.specs.Ground.{Ground};
 ghost use Rattle.answers.specs.PathOf.{PathOf};
 ghost use Rattle.answers.specs.Work.{ValueIn};
 use crate::ground::grounded;
+use limits::Limit;
 use pages::Count;
 
 // The first nodes in turn, from the start's on.
@@ -18,7 +19,7 @@ fn firsts(
     bl: &[u64; 4096],
     bw: &[u64; 4096],
     n: usize,
-    bound: u64,
+    limit: Limit,
     floor: i64,
     low: usize,
     high: usize,
@@ -27,7 +28,7 @@ fn firsts(
     requires { ⌜ Ground n (now parent) (now order) (now place) (now bl) (now bw) ⌝ }
     ensures { λ r. ⌜ ((g : Ground n (now (parent .entry)) (now (order .entry)) (now (place .entry)) (now (bl .entry))
         (now (bw .entry)))
-        → Paged (Qualifies (ValueIn g) (λ l. l ≤ bound) floor n) low high (now (rows .entry)) (r .given) (r .left)
+        → Paged (Qualifies (ValueIn g) (Fits limit) floor n) low high (now (rows .entry)) (r .given) (r .left)
         (now (rows .exit))) ⌝ }
 {
     let mut above: [u16; 4096] = [0; 4096];
@@ -51,7 +52,7 @@ fn firsts(
             &mut wt,
         );
         let from = pages::first_second(low, high, u, n);
-        k = pages::seconds(rows, room, &len, &wt, u, from, n, bound, f, k);
+        k = pages::seconds(rows, room, &len, &wt, u, from, n, limit, f, k);
         u += 1;
     }
     k
@@ -62,15 +63,15 @@ pub(crate) fn page(
     s: &[u8],
     marks: &[u16],
     nodes: u16,
-    bound: u32,
+    limit: Limit,
     floor: i64,
     low: u16,
     high: u16,
     rows: &mut [u8],
 ) -> Count
     requires { ⌜ Net (now s) nodes ⌝ }
-    ensures { λ r. ⌜ Paged (Qualifies (PathOf (now (s .entry)) (now (marks .entry)) nodes) (λ l. l ≤ bound) floor nodes)
-        low high (now (rows .entry)) (r .given) (r .left) (now (rows .exit)) ⌝ }
+    ensures { λ r. ⌜ Paged (Qualifies (PathOf (now (s .entry)) (now (marks .entry)) nodes) (Fits limit) floor nodes) low
+        high (now (rows .entry)) (r .given) (r .left) (now (rows .exit)) ⌝ }
 {
     let mut parent: [u16; 4096] = [4096; 4096];
     let mut order: [u16; 4096] = [0; 4096];
@@ -95,7 +96,7 @@ pub(crate) fn page(
         &bl,
         &bw,
         n,
-        arrays::long(bound),
+        limit,
         floor,
         arrays::wide(low),
         arrays::wide(high),

@@ -8,8 +8,8 @@ use Rattle.tree.proofs.Begins.{accept-only}
 use Rattle.spines.proofs.HeadsOnly.{heads-only}
 use Rattle.marks.proofs.MarksOnly.{claim-only, commit-only, abort-only}
 use Rattle.answers.proofs.PairOnly.{pair-only}
-use Rattle.answers.proofs.HeaviestOnly.{heaviest-only}
-use Rattle.answers.proofs.ListingOnly.{listing-only}
+use Rattle.answers.proofs.HeaviestOnly.{heaviest-only, heaviest-exact-only}
+use Rattle.answers.proofs.ListingOnly.{listing-only, listing-exact-only}
 use Rattle.capi.specs.Call.{Call, Shows}
 use Rattle.capi.specs.Shown.{
   acceptance,
@@ -21,8 +21,10 @@ use Rattle.capi.specs.Shown.{
   AcceptCall,
   PairCall,
   HeaviestCall,
+  HeaviestExactCall,
   HeadsCall,
   ListingCall,
+  ListingExactCall,
   ClaimCall,
   CommitCall,
   AbortCall,
@@ -40,12 +42,19 @@ hb-pair-only s marks a b = shows-only pair (pair-only s marks a b)
 pub hb-heaviest-only : (s marks : List ℕ) → Only (HeaviestCall s marks)
 hb-heaviest-only s marks = shows-only heaviest (heaviest-only s marks)
 
+pub hb-heaviest-exact-only : (s marks : List ℕ) → Only (HeaviestExactCall s marks)
+hb-heaviest-exact-only s marks = shows-only heaviest (heaviest-exact-only s marks)
+
 pub hb-heads-only : (s before : List ℕ) → Only (HeadsCall s before)
 hb-heads-only s before = shows-only heads (heads-only s before)
 
 pub hb-listing-only : (s marks : List ℕ) (floor : ℤ) (low high : ℕ) (old : List ℕ)
     → Only (ListingCall s marks floor low high old)
 hb-listing-only s marks floor low high old = shows-only listing (listing-only s marks floor low high old)
+
+pub hb-listing-exact-only : (s marks : List ℕ) (floor : ℤ) (low high : ℕ) (old : List ℕ)
+    → Only (ListingExactCall s marks floor low high old)
+hb-listing-exact-only s marks floor low high old = shows-only listing (listing-exact-only s marks floor low high old)
 
 pub hb-claim-only : (s before : List ℕ) (run a b : ℕ) → Only (ClaimCall s before run a b)
 hb-claim-only s before run a b = shows-only change (claim-only s before run a b)

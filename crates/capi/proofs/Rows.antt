@@ -13,6 +13,8 @@ use Rattle.marks.specs.Claim.{Claims}
 use Rattle.answers.specs.Pair as P
 use Rattle.answers.specs.Heaviest as B
 use Rattle.answers.specs.Listing as L
+use Rattle.answers.proofs.Few.{listing-few}
+use Rattle.capi.specs.Work.{Storable}
 
 module _ {A : Type 0} (C : A → Type 0) where
   by-unless : {no : A} {Ok : Type 0} {rest : A → Type 0} → C no → (Ok → (x : A) → rest x → C x) → {x : A}
@@ -50,8 +52,9 @@ pair-low s marks a b x p =
     (λ _ _. by-unless (λ o. o .row < 4096) (omega arith) (λ _ _ h. omega (arith, h .row))))
     p
 
-pub heaviest-low : (s marks : List ℕ) (x : B.Outcome) → B.HeaviestOf s marks x → x .row < 4096
-heaviest-low s marks x p =
+pub heaviest-low : (none : ℕ) (Within : ℕ → Type 0) (s marks : List ℕ) (x : B.Outcome)
+    → B.HeaviestWithin none Within s marks x → x .row < 4096
+heaviest-low none Within s marks x p =
     by-beginning (λ o. o .row < 4096) s (λ k r l. l)
     (λ _. by-unless (λ o. o .row < 4096) (omega arith)
     (λ _ _. by-unless (λ o. o .row < 4096) (omega arith) (λ _ _ h. rw (h .is) (omega arith))))
@@ -62,13 +65,22 @@ heads-low s before x p =
     by-beginning (λ o. o .row < 4096) s (λ k r l. l)
     (λ _. by-unless (λ o. o .row < 4096) (omega arith) (λ _ _ h. rw (h .is) (omega arith))) p
 
-pub listing-low : (s marks : List ℕ) (floor : ℤ) (low high : ℕ) (old : List ℕ) (x : L.Outcome)
-    → L.ListingOf s marks floor low high old x → x .row < 4096
-listing-low s marks floor low high old x p =
+listing-low : (Within : ℕ → Type 0) (s marks : List ℕ) (floor : ℤ) (low high : ℕ) (old : List ℕ) (x : L.Outcome)
+    → L.ListingWithin Within s marks floor low high old x → x .row < 4096
+listing-low Within s marks floor low high old x p =
     by-beginning (λ o. o .row < 4096) s (λ k r l. l)
     (λ _. by-unless (λ o. o .row < 4096) (omega arith)
     (λ _ _. by-unless (λ o. o .row < 4096) (omega arith) (λ _ _ h. omega (arith, h .row))))
     p
+
+-- and of a listing the counts fit too
+pub listing-storable :
+    (Within : ℕ → Type 0) (s marks : List ℕ) (floor : ℤ) (low high : ℕ) (old : List ℕ) (x : L.Outcome)
+    → L.ListingWithin Within s marks floor low high old x → Storable x
+listing-storable Within s marks floor low high old x p = record {
+  row = listing-low Within s marks floor low high old x p;
+  counts = λ z. omega (arith, listing-few Within s marks floor low high old x z p);
+}
 
 numbered-low : (n : ℕ) (before : List ℕ) (run : ℕ) {rest : M.Outcome → Type 0}
     → ((x : M.Outcome) → rest x → x .row < 4096) → (x : M.Outcome) → M.Numbered n before run rest x → x .row < 4096

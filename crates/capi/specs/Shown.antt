@@ -47,11 +47,17 @@ PairCall s marks a b = Shows (P.PairOf s marks a b) pair
 abbrev pub HeaviestCall : List ℕ → List ℕ → Call → Type 0
 HeaviestCall s marks = Shows (B.HeaviestOf s marks) heaviest
 
+abbrev pub HeaviestExactCall : List ℕ → List ℕ → Call → Type 0
+HeaviestExactCall s marks = Shows (B.HeaviestExactOf s marks) heaviest
+
 abbrev pub HeadsCall : List ℕ → List ℕ → Call → Type 0
 HeadsCall s before = Shows (H.Headings s before) heads
 
 abbrev pub ListingCall : List ℕ → List ℕ → ℤ → ℕ → ℕ → List ℕ → Call → Type 0
 ListingCall s marks floor low high old = Shows (L.ListingOf s marks floor low high old) listing
+
+abbrev pub ListingExactCall : List ℕ → List ℕ → ℤ → ℕ → ℕ → List ℕ → Call → Type 0
+ListingExactCall s marks floor low high old = Shows (L.ListingExactOf s marks floor low high old) listing
 
 abbrev pub ClaimCall : List ℕ → List ℕ → ℕ → ℕ → ℕ → Call → Type 0
 ClaimCall s before run a b = Shows (Claims s before run a b) change

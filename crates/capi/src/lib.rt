@@ -2,6 +2,7 @@
 // [i64; 8]` a pointer. Each function returns the refusal number (0: none) and writes all 8 of `answer`: number, row, 0
 // (reserved), the operation's fields in order, zeros.
 mod answer;
+mod shown;
 
 ghost use mathlib.Core.List.{[]};
 ghost use Rattle.capi.specs.Call.{call};
@@ -9,8 +10,10 @@ ghost use Rattle.capi.specs.Shown.{
   AcceptCall,
   PairCall,
   HeaviestCall,
+  HeaviestExactCall,
   HeadsCall,
   ListingCall,
+  ListingExactCall,
   ClaimCall,
   CommitCall,
   AbortCall,
@@ -18,9 +21,9 @@ ghost use Rattle.capi.specs.Shown.{
 use answer::fill;
 use answer::show_change;
 use answer::signed;
-use answers::Listed;
 use answers::PairAnswer;
-use answers::Run;
+use shown::show_page;
+use shown::show_run;
 use spines::HeadsAnswer;
 use tree::Acceptance;
 
@@ -66,20 +69,16 @@ pub extern "C" fn hb_heaviest(table: &[u8], marks: &[u16], answer: &mut [i64; 8]
     ensures { λ r. ⌜ HeaviestCall (now (table .entry)) (now (marks .entry)) (call r (now (answer .exit)) []) ⌝ }
 {
     let o = answers::heaviest(table, marks);
-    match o {
-        Run::Refused(why) => fill(answer, why.number, why.row, 0, 0, 0, 0),
-        Run::Between {
-            low,
-            high,
-            length,
-            weight,
-        } => {
-            let a = signed(low as u64);
-            let b = signed(high as u64);
-            let l = signed(length as u64);
-            fill(answer, 0, 0, a, b, l, weight)
-        }
-    }
+    show_run(o, answer)
+}
+
+// The same for exactly the bound's length.
+#[no_mangle]
+pub extern "C" fn hb_heaviest_exact(table: &[u8], marks: &[u16], answer: &mut [i64; 8]) -> u8
+    ensures { λ r. ⌜ HeaviestExactCall (now (table .entry)) (now (marks .entry)) (call r (now (answer .exit)) []) ⌝ }
+{
+    let o = answers::heaviest_exact(table, marks);
+    show_run(o, answer)
 }
 
 // No fields; each node's head into `heads`.
@@ -110,14 +109,25 @@ pub extern "C" fn hb_listing(
         (call r (now (answer .exit)) (now (rows .exit))) ⌝ }
 {
     let o = answers::listing(table, marks, floor, low, high, rows);
-    match o {
-        Listed::Refused(why) => fill(answer, why.number, why.row, 0, 0, 0, 0),
-        Listed::Rows { written, left } => {
-            let w = signed(written as u64);
-            let l = signed(left as u64);
-            fill(answer, 0, 0, w, l, 0, 0)
-        }
-    }
+    show_page(o, answer)
+}
+
+// The same for exactly the bound's length.
+#[no_mangle]
+pub extern "C" fn hb_listing_exact(
+    table: &[u8],
+    marks: &[u16],
+    floor: i64,
+    low: u16,
+    high: u16,
+    rows: &mut [u8],
+    answer: &mut [i64; 8],
+) -> u8
+    ensures { λ r. ⌜ ListingExactCall (now (table .entry)) (now (marks .entry)) floor low high (now (rows .entry))
+        (call r (now (answer .exit)) (now (rows .exit))) ⌝ }
+{
+    let o = answers::listing_exact(table, marks, floor, low, high, rows);
+    show_page(o, answer)
 }
 
 // Fields: claimed; the marks change in place.

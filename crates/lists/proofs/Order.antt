@@ -2,12 +2,13 @@
 -- partner makes a better pair.
 use Prim.Native.Nat.{ℕ, _≤_, _<_}
 use mathlib.Core.Path.{_≡_, refl}
-use mathlib.Core.Logic.{inl, inr}
+use mathlib.Core.Bool.{Bool, true}
+use mathlib.Core.Logic.{_⊎_, inl, inr}
 use mathlib.Core.List.{List}
 use native.Mathlib.Omega.{arith}
 use Rattle.arrays.specs.Filled.{at}
 use Rattle.lists.specs.Pairs.{Le, pair}
-use Rattle.lists.specs.Partners.{Offered, Better, Preferred}
+use Rattle.lists.specs.Partners.{Offered, Better, Preferred, Ahead, Picked}
 use Rattle.lists.specs.declared.across.Best.{Best}
 
 pub le-refl : (x : Best) → Le x x
@@ -64,6 +65,41 @@ preferred-old name d w m j old new b h =
 
 pub preferred-new : (name d w : List ℕ) (m j old new : ℕ) → Better name d w old new → Preferred name d w m j old new new
 preferred-new name d w m j old new h = record { keeps = λ n. h; beats = better-refl name d w new; comes = inl refl }
+
+pub ahead-trans : {exact : Bool} {name d w : List ℕ} {x y z : ℕ} → Ahead exact name d w x y → Ahead exact name d w y z
+    → Ahead exact name d w x z
+ahead-trans p q =
+    record {
+      far = λ e. omega (arith, p .far e, q .far e);
+      better = λ h. better-trans (p .better (λ e. omega (arith, q .far e, h e)))
+          (q .better (λ e. omega (arith, p .far e, h e)));
+    }
+
+-- the farther is taken
+pub picked-far : (name d w : List ℕ) (m j old new : ℕ) (exact : Bool) → exact ≡ true → at d old < at d new
+    → Picked exact name d w m j old new new
+picked-far name d w m j old new exact e h = record {
+  keeps = λ n l. record { far = λ _. l; better = λ f. absurd (omega (arith, f e)) };
+  beats = λ l. record { far = λ _. omega arith; better = λ _. better-refl name d w new };
+  comes = inl refl;
+}
+
+-- they are equally far, or it does not count
+pub picked-level : (name d w : List ℕ) (m j old new r : ℕ) (exact : Bool) → (exact ≡ true → at d new ≤ at d old)
+    → Preferred name d w m j old new r → Picked exact name d w m j old new r
+picked-level name d w m j old new r exact h p = record {
+  keeps = λ n l. record { far = λ e. far e n l (p .comes); better = λ _. p .keeps n };
+  beats = λ l. record { far = λ e. near e l (p .comes); better = λ _. p .beats };
+  comes = p .comes;
+}
+  where
+    far : exact ≡ true → m < j → at d old ≤ at d new → (r ≡ new) ⊎ ((m < j) × (r ≡ old)) → at d old ≤ at d r
+    far e n l (inl u) = rw u l
+    far e n l (inr u) = rw (u .1) (omega arith)
+
+    near : exact ≡ true → (m < j → at d old ≤ at d new) → (r ≡ new) ⊎ ((m < j) × (r ≡ old)) → at d new ≤ at d r
+    near e l (inl u) = rw u (omega arith)
+    near e l (inr u) = rw (u .1) (h e)
 
 -- For one x a better partner is a better pair: an earlier node is an earlier pair
 pub tie : (name ku wu d w : List ℕ) (x p q : ℕ) → Better name d w p q

@@ -44,20 +44,20 @@ pub record Joinable (ku wu d w up down : List ℕ) (s m e : ℕ) : Type 0 where
   pub up-sorted : Sorted (By ku) up s m
   pub down-sorted : Sorted (By d) down m e
 
--- `new` is a pair across, within the limit
-pub record Across (name ku wu d w up down : List ℕ) (s m e limit : ℕ) (new : Best) : Type 0 where
+-- `new` is a pair across, within the length test
+pub record Across (name ku wu d w up down : List ℕ) (s m e : ℕ) (Within : ℕ → Type 0) (new : Best) : Type 0 where
   pub i : ℕ
   pub j : ℕ
   pub i-low : s ≤ i
   pub i-high : i < m
   pub j-low : m ≤ j
   pub j-high : j < e
-  pub short : at ku (at up i) + at d (at down j) ≤ limit
+  pub short : Within (at ku (at up i) + at d (at down j))
   pub is : new ≡ pair name ku wu d w (at up i) (at down j)
 
--- the new best keeps the old, beats every pair across within the limit, and is one of these
-pub record Joined (name ku wu d w up down : List ℕ) (s m e limit : ℕ) (old new : Best) : Type 0 where
+-- the new best keeps the old, beats every pair across within the length test, and is one of these
+pub record Joined (name ku wu d w up down : List ℕ) (s m e : ℕ) (Within : ℕ → Type 0) (old new : Best) : Type 0 where
   pub keeps : Le old new
-  pub beats : (i j : ℕ) → s ≤ i → i < m → m ≤ j → j < e → at ku (at up i) + at d (at down j) ≤ limit
+  pub beats : (i j : ℕ) → s ≤ i → i < m → m ≤ j → j < e → Within (at ku (at up i) + at d (at down j))
       → Le (pair name ku wu d w (at up i) (at down j)) new
-  pub comes : (new ≡ old) ⊎ Across name ku wu d w up down s m e limit new
+  pub comes : (new ≡ old) ⊎ Across name ku wu d w up down s m e Within new

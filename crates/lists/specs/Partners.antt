@@ -1,11 +1,12 @@
--- Working statements of the private functions of `join` (offer, prefer, advance, try_pair), and no part of the
+-- Working statements of the private functions of `join` (offer, prefer, pick, advance, try_pair), and no part of the
 -- promises.
 use Prim.Native.Nat.{ℕ, _+_, _^_, _≤_, _<_}
 use mathlib.Core.Path.{_≡_}
+use mathlib.Core.Bool.{Bool, true}
 use mathlib.Core.Logic.{_⊎_}
 use mathlib.Core.List.{List}
 use Rattle.arrays.specs.Filled.{at}
-use Rattle.lists.specs.Runs.{In, Nodes}
+use Rattle.lists.specs.Runs.{In, By, Sorted, Nodes}
 use Rattle.lists.specs.Pairs.{Le, Small, pair}
 use Rattle.lists.specs.declared.across.Best.{Best}
 
@@ -27,19 +28,31 @@ pub record Preferred (name d w : List ℕ) (m j old new r : ℕ) : Type 0 where
   pub beats : Better name d w new r
   pub comes : (r ≡ new) ⊎ ((m < j) × (r ≡ old))
 
+-- the same in both modes: where the limit is meant exactly, the farther goes first, and the better of those equally far
+pub record Ahead (exact : Bool) (name d w : List ℕ) (p q : ℕ) : Type 0 where
+  pub far : exact ≡ true → at d p ≤ at d q
+  pub better : (exact ≡ true → at d q ≤ at d p) → Better name d w p q
+
+-- r is ahead of both, the old one counting where one was passed, and the new one being no nearer
+pub record Picked (exact : Bool) (name d w : List ℕ) (m j old new r : ℕ) : Type 0 where
+  pub keeps : m < j → at d old ≤ at d new → Ahead exact name d w old r
+  pub beats : (m < j → at d old ≤ at d new) → Ahead exact name d w new r
+  pub comes : (r ≡ new) ⊎ ((m < j) × (r ≡ old))
+
 pub record Walkable (d down : List ℕ) (m e key : ℕ) : Type 0 where
   pub within : e ≤ 4096
   pub nodes : Nodes down m e
+  pub sorted : Sorted (By d) down m e
   pub keys : Small d
   pub here : key < 2 ^ 62
 
 -- the run is passed from m to j, and node is the best partner there
-pub record Sofar (name d w down : List ℕ) (m e j node : ℕ) : Type 0 where
+pub record Sofar (exact : Bool) (name d w down : List ℕ) (m e j node : ℕ) : Type 0 where
   pub low : m ≤ j
   pub high : j ≤ e
   pub small : node < 4096
   pub there : m < j → In down m j node
-  pub best : (p : ℕ) → m ≤ p → p < j → Better name d w (at down p) node
+  pub best : (p : ℕ) → m ≤ p → p < j → Ahead exact name d w (at down p) node
 
 -- from j to j′ all is within the limit, and the next is not
 pub record Advanced (d down : List ℕ) (e key limit j j′ : ℕ) : Type 0 where
@@ -47,7 +60,8 @@ pub record Advanced (d down : List ℕ) (e key limit j j′ : ℕ) : Type 0 wher
   pub within : (p : ℕ) → j ≤ p → p < j′ → key + at d (at down p) ≤ limit
   pub stop : j′ < e → limit < key + at d (at down j′)
 
--- the pair of x and y was offered, where a partner was passed
-pub record Tried (name ku wu d w : List ℕ) (m j x y : ℕ) (old new : Best) : Type 0 where
-  pub offered : m < j → Offered old (pair name ku wu d w x y) new
-  pub none : j ≤ m → new ≡ old
+-- the pair of x and y was offered, where a partner was passed and the pair is within the length test
+pub record Tried (Within : ℕ → Type 0) (name ku wu d w : List ℕ) (m j x y : ℕ) (old new : Best) : Type 0 where
+  pub keeps : Le old new
+  pub beats : m < j → Within (at ku x + at d y) → Le (pair name ku wu d w x y) new
+  pub comes : (new ≡ old) ⊎ ((m < j) × Within (at ku x + at d y) × (new ≡ pair name ku wu d w x y))

@@ -1,9 +1,12 @@
 // The best pair of places, one from each of two runs: going down the one and up the other, with the best partner that
 // was passed.
 ghost use Prim.Native.Nat.{_<_};
+ghost use Rattle.limits.specs.Fits.{Fits};
 ghost use Rattle.lists.specs.Pairs.{best4, Given, Joinable, Joined};
-ghost use Rattle.lists.specs.Partners.{Offered, Preferred, Walkable, Sofar, Advanced, Tried};
+ghost use Rattle.lists.specs.Partners.{Offered, Preferred, Picked, Walkable, Sofar, Advanced, Tried};
 use arrays::wide;
+use limits::Limit;
+use limits::fits;
 
 // The best pair so far: its weight and length, lifted, and its two nodes, lower first. Weight 0: none.
 pub struct Best {
@@ -82,6 +85,29 @@ fn prefer(
     new
 }
 
+// The partner to keep. Where the limit is exact the farther goes first: of those passed, only the farthest can still
+// reach it.
+fn pick(
+    name: &[u16; 4096],
+    d: &[u64; 4096],
+    w: &[u64; 4096],
+    m: usize,
+    j: usize,
+    old: usize,
+    new: usize,
+    exact: bool,
+) -> usize
+    requires { ⌜ (new < 4096) × (old < 4096) ⌝ }
+    ensures { λ r. ⌜ Picked exact (now (name .entry)) (now (d .entry)) (now (w .entry)) m j old new r ⌝ }
+{
+    if exact {
+        if d[new] > d[old] {
+            return new;
+        }
+    }
+    prefer(name, d, w, m, j, old, new)
+}
+
 // Passes on while the place's key with `key` stays within the limit.
 fn advance(
     down: &[u16; 4096],
@@ -91,29 +117,29 @@ fn advance(
     m: usize,
     e: usize,
     key: u64,
-    limit: u64,
+    limit: Limit,
     from: Partner,
 ) -> Partner
     requires { ⌜ Walkable (now d) (now down) m e key ⌝ }
-    requires { ⌜ Sofar (now name) (now d) (now w) (now down) m e (from .to) (from .node) ⌝ }
-    ensures { λ r. ⌜ Sofar (now (name .entry)) (now (d .entry)) (now (w .entry)) (now (down .entry)) m e (r .to)
-        (r .node) ⌝ }
-    ensures { λ r. ⌜ Advanced (now (d .entry)) (now (down .entry)) e key limit (from .to) (r .to) ⌝ }
+    requires { ⌜ Sofar (limit .exact) (now name) (now d) (now w) (now down) m e (from .to) (from .node) ⌝ }
+    ensures { λ r. ⌜ Sofar (limit .exact) (now (name .entry)) (now (d .entry)) (now (w .entry)) (now (down .entry)) m e
+        (r .to) (r .node) ⌝ }
+    ensures { λ r. ⌜ Advanced (now (d .entry)) (now (down .entry)) e key (limit .most) (from .to) (r .to) ⌝ }
 {
     let mut j = from.to;
     let mut node = from.node;
     while j < e {
         let y = wide(down[j]);
-        if limit < key + d[y] {
+        if limit.most < key + d[y] {
             return Partner { to: j, node: node };
         }
-        node = prefer(name, d, w, m, j, node, y);
+        node = pick(name, d, w, m, j, node, y, limit.exact);
         j += 1;
     }
     Partner { to: j, node: node }
 }
 
-// Offers the pair of x and its best partner y, where one was passed (m < j).
+// Offers the pair of x and its best partner y, where one was passed (m < j) and the two fit the limit.
 fn try_pair(
     name: &[u16; 4096],
     ku: &[u64; 4096],
@@ -124,18 +150,22 @@ fn try_pair(
     j: usize,
     x: usize,
     y: usize,
+    limit: Limit,
     best: Best,
 ) -> Best
     requires { ⌜ Given (now ku) (now wu) (now d) (now w) ⌝ }
     requires { ⌜ (x < 4096) × (y < 4096) ⌝ }
-    ensures { λ r. ⌜ Tried (now (name .entry)) (now (ku .entry)) (now (wu .entry)) (now (d .entry)) (now (w .entry)) m j
-        x y best r ⌝ }
+    ensures { λ r. ⌜ Tried (Fits limit) (now (name .entry)) (now (ku .entry)) (now (wu .entry)) (now (d .entry))
+        (now (w .entry)) m j x y best r ⌝ }
 {
     if j <= m {
         return best;
     }
-    let weight = wu[x] + w[y];
     let length = ku[x] + d[y];
+    if !fits(limit, length) {
+        return best;
+    }
+    let weight = wu[x] + w[y];
     let a = wide(name[x]);
     let b = wide(name[y]);
     if a < b {
@@ -145,7 +175,7 @@ fn try_pair(
 }
 
 // The best of `best` and the pairs of a place x of up's run, from s to m, and a place y of down's, from m to e, with
-// ku[x] + d[y] at most `limit`. up is sorted by ku, down by d.
+// ku[x] + d[y] at most `limit`, or exactly it. up is sorted by ku, down by d.
 pub fn join(
     up: &[u16; 4096],
     down: &[u16; 4096],
@@ -157,12 +187,12 @@ pub fn join(
     s: usize,
     m: usize,
     e: usize,
-    limit: u64,
+    limit: Limit,
     best: Best,
 ) -> Best
     requires { ⌜ Joinable (now ku) (now wu) (now d) (now w) (now up) (now down) s m e ⌝ }
     ensures { λ r. ⌜ Joined (now (name .entry)) (now (ku .entry)) (now (wu .entry)) (now (d .entry)) (now (w .entry))
-        (now (up .entry)) (now (down .entry)) s m e limit best r ⌝ }
+        (now (up .entry)) (now (down .entry)) s m e (Fits limit) best r ⌝ }
 {
     let mut all = best;
     let mut j = m;
@@ -184,7 +214,7 @@ pub fn join(
         );
         j = p.to;
         node = p.node;
-        all = try_pair(name, ku, wu, d, w, m, j, x, node, all);
+        all = try_pair(name, ku, wu, d, w, m, j, x, node, limit, all);
     }
     all
 }

@@ -196,6 +196,16 @@ fn heaviest(bound: u8, marks: [u16; 4]) {
     run_said(answers::heaviest(&t, &marks));
 }
 
+// `exactly B 8: 1 4 8 4`
+fn heaviest_exact(bound: u8) {
+    let t = net(bound);
+    let free = [0u16; 4];
+    say(b"exactly B");
+    number(bound as u64);
+    say(b":");
+    run_said(answers::heaviest_exact(&t, &free));
+}
+
 // `pair 2 4: 11 6 2`
 fn pair(t: &[u8], free: &[u16], a: u16, b: u16) {
     say(b"pair");
@@ -269,6 +279,19 @@ fn listing(t: &[u8], floor: i64, low: u16, high: u16, rows: &mut [u8]) {
     listed(r, rows);
 }
 
+// `exactly B 7 floor 7: 0 2 left 0`
+fn listing_exact(bound: u8, floor: i64) {
+    let t = net(bound);
+    let free = [0u16; 4];
+    let mut rows = [0u8; 16];
+    say(b"exactly B");
+    number(bound as u64);
+    say(b" floor");
+    weight(floor);
+    let r = answers::listing_exact(&t, &free, floor, 0, 0, &mut rows);
+    listed(r, &rows);
+}
+
 fn told(c: Change, marks: &[u16]) {
     say(b":");
     match c {
@@ -332,6 +355,18 @@ fn runs() {
     heaviest(1, [0, 0, 0, 0]);
     heaviest(9, [0, 7, 7, 0]);
     heaviest(2, [0, 0, 0, 5]);
+}
+
+// Of exactly the bound's length (Req 02).
+fn exact_runs() {
+    heaviest_exact(7);
+    heaviest_exact(8);
+    heaviest_exact(9);
+    heaviest_exact(5);
+    listing_exact(7, 7);
+    listing_exact(7, 8);
+    listing_exact(8, -9223372036854775808);
+    listing_exact(5, -9223372036854775808);
 }
 
 fn pairs(t: &[u8], free: &[u16]) {
@@ -431,6 +466,7 @@ fn forked(t: &[u8]) {
 
 fn main() {
     runs();
+    exact_runs();
     let t = net(9);
     n5(&t);
     let f = fork();

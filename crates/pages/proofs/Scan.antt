@@ -1,7 +1,6 @@
 -- The second nodes of one first node in turn: what has been found below v, and one more.
 use Prim.Native.Nat.{ℕ, _+_, _≤_, _<_}
 use mathlib.Core.Path.{_≡_, refl, ap, _∙_}
-use mathlib.Core.Bool.{true, false, true≢false, false≢true}
 use mathlib.Core.Logic.{_⊎_, inl, inr}
 use mathlib.Core.List.{List}
 use native.Mathlib.Omega.{arith}
@@ -9,15 +8,9 @@ use native.Mathlib.Decide.{decLt, ℕ-discrete}
 use Rattle.arrays.specs.Filled.{at}
 use Rattle.table.proofs.Lift.{diff-only}
 use Rattle.pages.specs.Listing.{Entry, entry, second}
-use Rattle.pages.specs.Work.{lower, Starts, Decides, Added, Grown, Here, Seconds}
+use Rattle.pages.specs.Work.{lower, Starts, Added, Grown, Here, Seconds}
 use Rattle.pages.proofs.Lift.{lower-is}
 use Rattle.pages.proofs.Filling.{grown-none, grown-iff, grown-end}
-
-pub decides-true : {P : Type 0} → P → Decides P true
-decides-true p = record { holds = λ _. p; fails = λ h. absurd (true≢false h) }
-
-pub decides-false : {P : Type 0} → (P → ⊥) → Decides P false
-decides-false n = record { holds = λ h. absurd (false≢true h); fails = λ _. n }
 
 module _ {Within : ℕ → Type 0} {len wt : List ℕ} {u from floor : ℕ} where
   here-up : (v : ℕ) (e : Entry) → Here Within len wt u from floor v e → Here Within len wt u from floor (v + 1) e

@@ -2,7 +2,6 @@
 -- first node at a time. A weight is carried lifted: x stands for the signed number x − 2^33.
 use Prim.Native.Nat.{ℕ, _+_, _*_, _≤_, _<_}
 use mathlib.Core.Path.{_≡_}
-use mathlib.Core.Bool.{Bool, true, false}
 use mathlib.Core.List.{List, [], _∷_, _++_}
 use lib.IntN.{ℤ, subℕ}
 use lib.ListN.{length, take, drop}
@@ -26,11 +25,6 @@ pub record Starts (s t u n r : ℕ) : Type 0 where
   pub within : r ≤ n
   pub after : (v : ℕ) → v < n → r ≤ v → (u < v) × (u ≡ s → t < v)
   pub before : (v : ℕ) → v < n → u < v → (u ≡ s → t < v) → r ≤ v
-
--- r is the answer to whether P holds
-pub record Decides (P : Type 0) (r : Bool) : Type 0 where
-  pub holds : r ≡ true → P
-  pub fails : r ≡ false → P → ⊥
 
 -- a page that is filling: of the entries seen so far the first are written, as many as there is room for, and the
 -- others counted

@@ -6,9 +6,12 @@ ghost use lib.ListN.{length};
 ghost use lib.Seq.{sets};
 ghost use mir.Syntax.{w64};
 ghost use mir.Val.{ofZ};
+ghost use Rattle.limits.specs.Fits.{Fits, Decides};
 ghost use Rattle.pages.specs.Listing.{entry};
 ghost use Rattle.pages.specs.Bytes.{bytes, row};
-ghost use Rattle.pages.specs.Work.{lower, Raised, Starts, Decides, Added, Ready, Seconds};
+ghost use Rattle.pages.specs.Work.{lower, Raised, Starts, Added, Ready, Seconds};
+use limits::Limit;
+use limits::fits;
 
 // The rows written and the rows left over.
 pub struct Count {
@@ -79,17 +82,14 @@ fn add(out: &mut [u8], room: usize, a: usize, b: usize, l: u64, x: u64, c: Count
     }
 }
 
-// Whether a length is within the bound and a lifted weight at least the lifted floor.
-fn passes(l: u64, x: u64, bound: u64, floor: u64) -> bool
-    ensures { λ r. ⌜ Decides ((l ≤ bound) × (floor ≤ x)) r ⌝ }
+// Whether a length fits the limit and a lifted weight is at least the lifted floor.
+fn passes(l: u64, x: u64, limit: Limit, floor: u64) -> bool
+    ensures { λ r. ⌜ Decides (Fits limit l × (floor ≤ x)) r ⌝ }
 {
-    if bound < l {
-        return false;
-    }
     if x < floor {
         return false;
     }
-    true
+    fits(limit, l)
 }
 
 // One more than x, and n where that is above n.
@@ -123,12 +123,12 @@ pub fn seconds(
     u: usize,
     from: usize,
     n: usize,
-    bound: u64,
+    limit: Limit,
     floor: u64,
     c: Count,
 ) -> Count
     requires { ⌜ Ready (now out) room (now len) (now wt) u from n (c .left) ⌝ }
-    ensures { λ r. ⌜ Seconds (λ l. l ≤ bound) (now (len .entry)) (now (wt .entry)) u from floor n (now (out .entry))
+    ensures { λ r. ⌜ Seconds (Fits limit) (now (len .entry)) (now (wt .entry)) u from floor n (now (out .entry))
         (c .given) (c .left) (now (out .exit)) (r .given) (r .left) ⌝ }
 {
     let mut k = c;
@@ -136,7 +136,7 @@ pub fn seconds(
     while v < n {
         let l = len[v];
         let x = wt[v];
-        if passes(l, x, bound, floor) {
+        if passes(l, x, limit, floor) {
             k = add(out, room, u, v, l, x, k);
         }
         v += 1;

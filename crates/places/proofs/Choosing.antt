@@ -131,8 +131,9 @@ module _ {n : ℕ} {parent order place spot stops heads parents names : List ℕ
                   high = omega (arith, c .value .high, numbers.name-at g m a ba, numbers.name-at g m b bb);
                 }
 
-    module _ (limit : ℕ) (r : Best) (f : Searched stops heads parents names far heavy 0 n limit (best4 0 0 0 0) r) where
-      beats : (x y : ℕ) → x < y → y < n → Met n parent d w x y limit r
+    module _ (Within : ℕ → Type 0) (r : Best)
+        (f : Searched stops heads parents names far heavy 0 n Within (best4 0 0 0 0) r) where
+      beats : (x y : ℕ) → x < y → y < n → Met n parent d w x y Within r
       beats x y o by = pick (decLt (at spot x) (at spot y))
         where
           bx : x < n
@@ -145,7 +146,7 @@ module _ {n : ℕ} {parent order place spot stops heads parents names : List ℕ
               which (yes e) = absurd (omega (arith, numbers.spot-one g m y x by bx e))
               which (no q) = omega arith
 
-          pick : Dec (at spot x < at spot y) → Met n parent d w x y limit r
+          pick : Dec (at spot x < at spot y) → Met n parent d w x y Within r
           pick (yes l) =
               let k = f .beats (at spot x) (at spot y) (omega arith) l (spots-of .within y by) in
               record { best = k .best; value = value x y x y (k .best) bx by l along o (k .cross); beaten = k .beaten }
@@ -154,15 +155,15 @@ module _ {n : ℕ} {parent order place spot stops heads parents names : List ℕ
               let k = f .beats (at spot y) (at spot x) (omega arith) h (spots-of .within x bx) in
               record { best = k .best; value = value y x x y (k .best) by bx h turned o (k .cross); beaten = k .beaten }
 
-      found : places.Found stops heads parents names far heavy 0 n limit r → Found n parent d w limit r
+      found : places.Found stops heads parents names far heavy 0 n Within r → Found n parent d w Within r
       found u =
-          numbers.by-place g m (λ p. p ≡ u .p → Found n parent d w limit r)
-          (λ a ba ea. numbers.by-place g m (λ q. q ≡ u .q → Found n parent d w limit r)
+          numbers.by-place g m (λ p. p ≡ u .p → Found n parent d w Within r)
+          (λ a ba ea. numbers.by-place g m (λ q. q ≡ u .q → Found n parent d w Within r)
           (λ b bb eb. side a b ba bb ea eb (decLt a b)) (u .q) (u .q-high) refl)
           (u .p) (omega (arith, u .p-q, u .q-high)) refl
         where
           side : (a b : ℕ) → a < n → b < n → at spot a ≡ u .p → at spot b ≡ u .q → Dec (a < b)
-              → Found n parent d w limit r
+              → Found n parent d w Within r
           side a b ba bb ea eb s = pick s
             where
               l : at spot a < at spot b
@@ -171,7 +172,7 @@ module _ {n : ℕ} {parent order place spot stops heads parents names : List ℕ
               c : Cross stops heads parents names far heavy (at spot a) (at spot b) r
               c = rw (ea, eb) (u .cross)
 
-              pick : Dec (a < b) → Found n parent d w limit r
+              pick : Dec (a < b) → Found n parent d w Within r
               pick (yes o) =
                   record {
                     x = a;
@@ -196,10 +197,10 @@ module _ {n : ℕ} {parent order place spot stops heads parents names : List ℕ
                   strict (yes e) = absurd (omega (arith, l, ap (at spot) e))
                   strict (no q) = omega arith
 
-      pub chosen : Chosen n parent d w limit r
+      pub chosen : Chosen n parent d w Within r
       chosen = record { beats = beats; comes = comes (f .comes) }
         where
-          comes : (r ≡ best4 0 0 0 0) ⊎ places.Found stops heads parents names far heavy 0 n limit r
-              → (r ≡ best4 0 0 0 0) ⊎ Found n parent d w limit r
+          comes : (r ≡ best4 0 0 0 0) ⊎ places.Found stops heads parents names far heavy 0 n Within r
+              → (r ≡ best4 0 0 0 0) ⊎ Found n parent d w Within r
           comes (inl e) = inl e
           comes (inr u) = inr (found u)

@@ -30,22 +30,22 @@ module _ (n : ℕ) (parent d w : List ℕ) where
     pub low : b .low ≡ x
     pub high : b .high ≡ y
 
-  -- the pair of x and y has a value, and if that is within the limit, new is at least as good
-  pub record Met (x y limit : ℕ) (new : Best) : Type 0 where
+  -- the pair of x and y has a value, and if that is within the length test, new is at least as good
+  pub record Met (x y : ℕ) (Within : ℕ → Type 0) (new : Best) : Type 0 where
     pub best : Best
     pub value : Value x y best
-    pub beaten : best .length ≤ limit → Le best new
+    pub beaten : Within (best .length) → Le best new
 
-  -- new is a pair within the limit
-  pub record Found (limit : ℕ) (new : Best) : Type 0 where
+  -- new is a pair within the length test
+  pub record Found (Within : ℕ → Type 0) (new : Best) : Type 0 where
     pub x : ℕ
     pub y : ℕ
     pub order : x < y
     pub fits : y < n
     pub value : Value x y new
-    pub short : new .length ≤ limit
+    pub short : Within (new .length)
 
-  -- new beats every pair within the limit, and is one, or none
-  pub record Chosen (limit : ℕ) (new : Best) : Type 0 where
-    pub beats : (x y : ℕ) → x < y → y < n → Met x y limit new
-    pub comes : (new ≡ best4 0 0 0 0) ⊎ Found limit new
+  -- new beats every pair within the length test, and is one, or none
+  pub record Chosen (Within : ℕ → Type 0) (new : Best) : Type 0 where
+    pub beats : (x y : ℕ) → x < y → y < n → Met x y Within new
+    pub comes : (new ≡ best4 0 0 0 0) ⊎ Found Within new

@@ -32,36 +32,37 @@ module _ (Value : ℕ → ℕ → ℕ → ℤ → Type 0) (n : ℕ)
       one : {c d : ℕ} {y z : ℤ} → y ≡ z → Diff c lift y → Diff d lift z → c ≡ d
       one e h k = lift-only (rw e at h) k
 
-  module _ (bound : ℕ) where
+  module _ (Within : ℕ → Type 0) where
     -- a pair that is found is beaten by any other outcome
-    below : {r x : Best} → BestPair Value n bound r → Carried Value n (x .low) (x .high) x → x .length ≤ bound + lift
+    below : {r x : Best} → BestPair Value n Within r → (p : Carried Value n (x .low) (x .high) x) → Within (p .l)
         → Le x r
     below {r} {x} h p o =
         let t = h .beats (x .low) (x .high) (p .lower) (p .fits) in
         let e : t .0 ≡ x = carried-one (t .1) p in
-        moved e (t .2) o
+        let l : t .1 .l ≡ p .l = single (x .low) (x .high) (t .1 .l) (p .l) (t .1 .w) (p .w) (t .1 .value)
+        (p .value) .0 in
+        moved e (t .2 (rw l o))
       where
-        moved : {a b : Best} → a ≡ b → (a .length ≤ bound + lift → Le a r) → b .length ≤ bound + lift → Le b r
+        moved : {a b : Best} → a ≡ b → Le a r → Le b r
         moved e f = rw e at f
 
-    not-none : {r x : Best} → BestPair Value n bound r → r ≡ best4 0 0 0 0 → Carried Value n (x .low) (x .high) x
-        → x .length ≤ bound + lift → ⊥
+    not-none : {r x : Best} → BestPair Value n Within r → r ≡ best4 0 0 0 0 → (p : Carried Value n (x .low) (x .high) x)
+        → Within (p .l) → ⊥
     not-none h e p o = omega (arith, below h p o .weight, p .near-low, ap (λ b. b .weight) e)
 
-    best-only : (x y : Best) → BestPair Value n bound x → BestPair Value n bound y → x ≡ y
+    best-only : (x y : Best) → BestPair Value n Within x → BestPair Value n Within y → x ≡ y
     best-only x y p q = pick (p .comes) (q .comes)
       where
-        pick : (x ≡ best4 0 0 0 0) ⊎ (Carried Value n (x .low) (x .high) x × (x .length ≤ bound + lift))
-            → (y ≡ best4 0 0 0 0) ⊎ (Carried Value n (y .low) (y .high) y × (y .length ≤ bound + lift)) → x ≡ y
+        pick : (x ≡ best4 0 0 0 0) ⊎ ((c : Carried Value n (x .low) (x .high) x) × Within (c .l))
+            → (y ≡ best4 0 0 0 0) ⊎ ((c : Carried Value n (y .low) (y .high) y) × Within (c .l)) → x ≡ y
         pick (inl e) (inl f) = e ∙ sym f
         pick (inl e) (inr k) = absurd (not-none p e (k .0) (k .1))
         pick (inr k) (inl f) = absurd (not-none q f (k .0) (k .1))
         pick (inr k) (inr j) = le-antisym x y (below q (k .0) (k .1)) (below p (j .0) (j .1))
 
--- and so it is in every net that fits the arrays
-pub heaviest-pair-only :
-    {n : ℕ} {parent order place bl bw : List ℕ} (g : Ground n parent order place bl bw) (bound : ℕ) (x y : Best)
-    → BestPair (Value (g .u) (g .v) (g .k) (g .long) (g .heavy)) n bound x
-    → BestPair (Value (g .u) (g .v) (g .k) (g .long) (g .heavy)) n bound y → x ≡ y
-heaviest-pair-only {n} g bound =
-    best-only (Value (g .u) (g .v) (g .k) (g .long) (g .heavy)) n (λ a b l m w z. one-value g) bound
+-- and so it is in every net that fits the arrays, under any length test
+pub heaviest-pair-only : {n : ℕ} {parent order place bl bw : List ℕ} (g : Ground n parent order place bl bw)
+    (Within : ℕ → Type 0) (x y : Best) → BestPair (Value (g .u) (g .v) (g .k) (g .long) (g .heavy)) n Within x
+    → BestPair (Value (g .u) (g .v) (g .k) (g .long) (g .heavy)) n Within y → x ≡ y
+heaviest-pair-only {n} g Within =
+    best-only (Value (g .u) (g .v) (g .k) (g .long) (g .heavy)) n (λ a b l m w z. one-value g) Within

@@ -171,22 +171,33 @@ module _ {n : ℕ} {parent order place bl bw : List ℕ} (g : Ground n parent or
             high = v .high;
           }
 
-  pub heaviest : (bound : ℕ) (r : Best) → Chosen n parent d w (bound + lift) r → BestPair From n bound r
-  heaviest bound r c = record { beats = beats; comes = comes (c .comes) }
-    where
-      beats : (x y : ℕ) → x < y → y < n → (b : Best) × Carried From n x y b × (b .length ≤ bound + lift → Le b r)
-      beats x y o by = let k = c .beats x y o by in (k .best, carried x y (k .best) o by (k .value), k .beaten)
+  -- the lists test lifted lengths: Raised is Within of a length lifted
+  module _ (Within Raised : ℕ → Type 0) (to : (l : ℕ) → Within l → Raised (lift + l))
+      (back : (l : ℕ) → Raised (lift + l) → Within l) (r : Best) (c : Chosen n parent d w Raised r) where
+    raised : {x y : ℕ} {b : Best} (a : Carried From n x y b) → Within (a .l) → Raised (b .length)
+    raised a h = rw (a .length) (to (a .l) h)
 
-      named : {x y : ℕ} → r .low ≡ x → r .high ≡ y → Carried From n x y r → (a b : ℕ) → a ≡ x → b ≡ y
-          → Carried From n a b r
-      named e f h a b i j = rw (i, j) h
+    lowered : {x y : ℕ} {b : Best} (a : Carried From n x y b) → Raised (b .length) → Within (a .l)
+    lowered a h = back (a .l) (rw (a .length) at h)
 
-      comes : (r ≡ best4 0 0 0 0) ⊎ Found n parent d w (bound + lift) r
-          → (r ≡ best4 0 0 0 0) ⊎ (Carried From n (r .low) (r .high) r × (r .length ≤ bound + lift))
-      comes (inl e) = inl e
-      comes (inr f) =
-          inr (
-            named (f .value .low) (f .value .high) (carried (f .x) (f .y) r (f .order) (f .fits) (f .value)) (r .low)
-                (r .high) (f .value .low) (f .value .high),
-            f .short,
-          )
+    pub heaviest : BestPair From n Within r
+    heaviest = record { beats = beats; comes = comes (c .comes) }
+      where
+        beats : (x y : ℕ) → x < y → y < n → (b : Best) × (a : Carried From n x y b) × (Within (a .l) → Le b r)
+        beats x y o by =
+            let k = c .beats x y o by in
+            let a = carried x y (k .best) o by (k .value) in
+            (k .best, a, λ h. k .beaten (raised a h))
+
+        named : {x y : ℕ} → r .low ≡ x → r .high ≡ y → Carried From n x y r → (a b : ℕ) → a ≡ x → b ≡ y
+            → Carried From n a b r
+        named e f h a b i j = rw (i, j) h
+
+        comes : (r ≡ best4 0 0 0 0) ⊎ Found n parent d w Raised r
+            → (r ≡ best4 0 0 0 0) ⊎ ((a : Carried From n (r .low) (r .high) r) × Within (a .l))
+        comes (inl e) = inl e
+        comes (inr f) =
+            let v = f .value in
+            let a = named (v .low) (v .high) (carried (f .x) (f .y) r (f .order) (f .fits) v) (r .low) (r .high)
+            (v .low) (v .high) in
+            inr (a, lowered a (f .short))

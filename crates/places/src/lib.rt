@@ -5,6 +5,7 @@ ghost use Prim.Native.Nat.{_<_};
 ghost use Rattle.tree.specs.Grown.{Grown};
 ghost use Rattle.tree.specs.Value.{Value};
 ghost use Rattle.paths.specs.Ground.{Ground};
+ghost use Rattle.limits.specs.Fits.{Fits};
 ghost use Rattle.places.specs.BestPair.{BestPair};
 ghost use Rattle.places.specs.Laid.{Numbering, LaidOut};
 use crate::laid::lay_long;
@@ -12,6 +13,7 @@ use crate::laid::lay_names;
 use crate::laid::lay_spots;
 use crate::laid::lay_stops;
 use crate::seats::seats;
+use limits::Limit;
 use lists::Best;
 use paths::paths_from;
 use runs::whole;
@@ -101,7 +103,7 @@ fn lay_out(
     lay_long(&spot, &w, n, heavy);
 }
 
-// Between crates: the heaviest pair of nodes whose path is at most `bound` long. bl and bw hold, for each node but 0,
+// Between crates: the heaviest pair of nodes whose path's length fits the limit. bl and bw hold, for each node but 0,
 // the length and the lifted weight of the branch to its parent. The answer's length and weight are lifted by 2^40;
 // weight 0 is none.
 pub fn heaviest_pair(
@@ -111,13 +113,13 @@ pub fn heaviest_pair(
     bl: &[u64; 4096],
     bw: &[u64; 4096],
     n: usize,
-    bound: u64,
+    limit: Limit,
 ) -> Best
     requires { ⌜ Ground n (now parent) (now order) (now place) (now bl) (now bw) ⌝ }
-    requires { ⌜ bound < 4294967296 ⌝ }
+    requires { ⌜ limit .most < 4294967296 ⌝ }
     ensures { λ r. ⌜ ((g : Ground n (now (parent .entry)) (now (order .entry)) (now (place .entry)) (now (bl .entry))
         (now (bw .entry)))
-        → BestPair (Value (g .u) (g .v) (g .k) (g .long) (g .heavy)) n bound r) ⌝ }
+        → BestPair (Value (g .u) (g .v) (g .k) (g .long) (g .heavy)) n (Fits limit) r) ⌝ }
 {
     let mut stops: [u16; 4096] = [0; 4096];
     let mut heads: [u16; 4096] = [0; 4096];
@@ -139,6 +141,7 @@ pub fn heaviest_pair(
         &mut far,
         &mut heavy,
     );
+    let most = limit.most + 1099511627776;
     whole(
         &stops,
         &heads,
@@ -147,6 +150,9 @@ pub fn heaviest_pair(
         &far,
         &heavy,
         n,
-        bound + 1099511627776,
+        Limit {
+            most: most,
+            exact: limit.exact,
+        },
     )
 }

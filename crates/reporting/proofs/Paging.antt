@@ -50,8 +50,8 @@ ready-asked {s} {marks} {lent} {bytes} {floor} {low} {high} {written} {left} r p
       lent = lent;
       room = r .room;
       page = n .1;
-      inside = listing-room s marks floor low high lent _ refl p;
-      few = listing-few s marks floor low high lent _ refl p;
+      inside = listing-room _ s marks floor low high lent _ refl p;
+      few = listing-few _ s marks floor low high lent _ refl p;
     }
 
 module _ {s marks : List ℕ} {floor : ℤ} {low high : ℕ} {bytes : List ℕ} {written left : ℕ}

@@ -16,23 +16,23 @@ use Rattle.runs.proofs.Numbered.{Numbered}
 use Rattle.runs.proofs.Parts.{part-le}
 
 -- One outcome only, where a pair has one value
-module _ (stop head parent name d w : List ℕ) (s e limit : ℕ) (old : Best)
+module _ (stop head parent name d w : List ℕ) (s e : ℕ) (Within : ℕ → Type 0) (old : Best)
     (one : (p q : ℕ) (a b : Best) → q < e → Cross stop head parent name d w p q a
     → Cross stop head parent name d w p q b → a ≡ b) where
-  below : (x y : Best) → Searched stop head parent name d w s e limit old x
-      → Searched stop head parent name d w s e limit old y → Le x y
+  below : (x y : Best) → Searched stop head parent name d w s e Within old x
+      → Searched stop head parent name d w s e Within old y → Le x y
   below x y f g = pick (f .comes)
     where
-      pick : (x ≡ old) ⊎ Found stop head parent name d w s e limit x → Le x y
+      pick : (x ≡ old) ⊎ Found stop head parent name d w s e Within x → Le x y
       pick (inl u) = rw u (g .keeps)
       pick (inr u) =
-          let k : Met stop head parent name d w (u .p) (u .q) limit y = g .beats (u .p) (u .q) (u .p-low) (u .p-q)
+          let k : Met stop head parent name d w (u .p) (u .q) Within y = g .beats (u .p) (u .q) (u .p-low) (u .p-q)
           (u .q-high) in
           let v : k .best ≡ x = one (u .p) (u .q) (k .best) x (u .q-high) (k .cross) (u .cross) in
           rw v at (k .beaten (rw v (u .short)))
 
-  pub searched-only : (x y : Best) → Searched stop head parent name d w s e limit old x
-      → Searched stop head parent name d w s e limit old y → x ≡ y
+  pub searched-only : (x y : Best) → Searched stop head parent name d w s e Within old x
+      → Searched stop head parent name d w s e Within old y → x ≡ y
   searched-only x y f g = le-antisym x y (below x y f g) (below y x g f)
 
 -- a subtree is a run of places: for the tree's theory to show
@@ -150,7 +150,8 @@ module _ (stop head parent : List ℕ) (n : ℕ) (z : Numbered stop head parent 
       λ i. record { weight = w₁ i; length = w₂ i; low = w₃ i; high = w₄ i }
 
   -- the promise of `whole` allows one outcome
-  pub whole-only : (name d w : List ℕ) (limit : ℕ) (old x y : Best) → Searched stop head parent name d w 0 n limit old x
-      → Searched stop head parent name d w 0 n limit old y → x ≡ y
-  whole-only name d w limit old =
-      searched-only stop head parent name d w 0 n limit old (λ p q a b l. cross-one name d w p q a b l)
+  pub whole-only : (name d w : List ℕ) (Within : ℕ → Type 0) (old x y : Best)
+      → Searched stop head parent name d w 0 n Within old x → Searched stop head parent name d w 0 n Within old y
+      → x ≡ y
+  whole-only name d w Within old =
+      searched-only stop head parent name d w 0 n Within old (λ p q a b l. cross-one name d w p q a b l)

@@ -65,12 +65,13 @@ pub record Halves (ku wu d w x y : List ℕ) (s m e : ℕ) : Type 0 where
   pub y-right : Listed ku y m e
 
 -- the two in one, with the best pair across
-pub record Folded (name ku wu d w : List ℕ) (s m e limit : ℕ) (x y x′ y′ : List ℕ) (old new : Best) : Type 0 where
+pub record Folded (name ku wu d w : List ℕ) (s m e : ℕ) (Within : ℕ → Type 0) (x y x′ y′ : List ℕ) (old new : Best) :
+    Type 0 where
   pub down : Listed d x′ s e
   pub up : Listed ku y′ s e
   pub down-kept : Kept s e x x′
   pub up-kept : Kept s e y y′
-  pub joined : Joined name ku wu d w y x s m e limit old new
+  pub joined : Joined name ku wu d w y x s m e Within old new
 
 module _ (stop head parent : List ℕ) where
   module _ (d w : List ℕ) where

@@ -42,24 +42,24 @@ module _ (stop head parent : List ℕ) where
       pub high : q < e
       pub value : Value p q t b
 
-    -- the pair of p and q has a value, and if that is within the limit, new is at least as good
-    pub record Met (p q limit : ℕ) (new : Best) : Type 0 where
+    -- the pair of p and q has a value, and if that is within the length test, new is at least as good
+    pub record Met (p q : ℕ) (Within : ℕ → Type 0) (new : Best) : Type 0 where
       pub best : Best
       pub cross : Cross p q best
-      pub beaten : best .length ≤ limit → Le best new
+      pub beaten : Within (best .length) → Le best new
 
-    -- new is a pair of places from s to e, within the limit
-    pub record Found (s e limit : ℕ) (new : Best) : Type 0 where
+    -- new is a pair of places from s to e, within the length test
+    pub record Found (s e : ℕ) (Within : ℕ → Type 0) (new : Best) : Type 0 where
       pub p : ℕ
       pub q : ℕ
       pub p-low : s ≤ p
       pub p-q : p < q
       pub q-high : q < e
       pub cross : Cross p q new
-      pub short : new .length ≤ limit
+      pub short : Within (new .length)
 
-    -- new keeps the old best, beats every pair of places from s to e within the limit, and is one of these
-    pub record Searched (s e limit : ℕ) (old new : Best) : Type 0 where
+    -- new keeps the old best, beats every pair of places from s to e within the length test, and is one of these
+    pub record Searched (s e : ℕ) (Within : ℕ → Type 0) (old new : Best) : Type 0 where
       pub keeps : Le old new
-      pub beats : (p q : ℕ) → s ≤ p → p < q → q < e → Met p q limit new
-      pub comes : (new ≡ old) ⊎ Found s e limit new
+      pub beats : (p q : ℕ) → s ≤ p → p < q → q < e → Met p q Within new
+      pub comes : (new ≡ old) ⊎ Found s e Within new

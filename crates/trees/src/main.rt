@@ -1,5 +1,5 @@
-// Answers the cases on standard input (oracle/README.md has their form): ten lines for each, and after each call that lends memory the sum over it.
-// What it must write is what the second program, oracle/, says.
+// Answers the cases on standard input (oracle/README.md has their form): twelve lines for each, and after each call that
+// lends memory the sum over it. What it must write is what the second program, oracle/, says.
 mod say;
 
 ghost use mathlib.Core.Path.{_≡_};
@@ -165,6 +165,12 @@ fn heaviest_line(t: &[u8], marks: &[u16]) {
     best_said(o);
 }
 
+fn heaviest_exact_line(t: &[u8], marks: &[u16]) {
+    say::word(b"heaviest_exact");
+    let o = answers::heaviest_exact(t, marks);
+    best_said(o);
+}
+
 fn heads_said(t: &[u8], list: &mut [u16]) {
     let o = spines::heads(t, list);
     match o {
@@ -203,18 +209,31 @@ fn listing_said(t: &[u8], marks: &[u16], ask: Ask, rows: &mut [u8]) {
     let floor = floor_of(ask.kind, ask.lifted);
     let low = ask.low;
     let high = ask.high;
+    say::word(b"listing");
     let o = answers::listing(t, marks, floor, low, high, rows);
     listed(o);
 }
 
-// The page of a given number of bytes, each of which held 165.
-fn listing_line(t: &[u8], marks: &[u16], ask: Ask, room: usize) {
+fn listing_exact_said(t: &[u8], marks: &[u16], ask: Ask, rows: &mut [u8]) {
+    let floor = floor_of(ask.kind, ask.lifted);
+    let low = ask.low;
+    let high = ask.high;
+    say::word(b"listing_exact");
+    let o = answers::listing_exact(t, marks, floor, low, high, rows);
+    listed(o);
+}
+
+// The page of a given number of bytes, each of which held 165, in either mode.
+fn listing_line(t: &[u8], marks: &[u16], exact: bool, ask: Ask, room: usize) {
     let mut space = [165u8; 65536];
     let whole = &mut space[..];
     if room <= whole.len() {
         let rows = &mut whole[0..room];
-        say::word(b"listing");
-        listing_said(t, marks, ask, rows);
+        if exact {
+            listing_exact_said(t, marks, ask, rows);
+        } else {
+            listing_said(t, marks, ask, rows);
+        }
         say::sum_bytes(rows);
     }
 }
@@ -260,8 +279,10 @@ fn first_lines(t: &[u8], marks: &[u16], ask: Ask, heads: usize, room: usize) {
     accept_line(t);
     pair_line(t, marks, a, b);
     heaviest_line(t, marks);
+    heaviest_exact_line(t, marks);
     heads_line(t, heads);
-    listing_line(t, marks, ask, room);
+    listing_line(t, marks, false, ask, room);
+    listing_line(t, marks, true, ask, room);
 }
 
 // What changes the marks, and what is said of them then.

@@ -1,51 +1,21 @@
--- `answers::listing` begins with acceptance: a refusal is handed on, and an accepted net goes on.
+-- `answers::listing` is the listing in its mode, the floor being the signed number that was handed on.
 use borrow.Author.Needs.{needs}
 use mir.Syntax.{w64}
 use mir.ValLaws.{toZ-ofZ}
-use Rattle.tree.proofs.Begins.{admitted, refused-on, passed-on}
-use Rattle.answers.specs.Listing.{refusal}
 use Rattle.answers.proofs.listing.Statement.{statement}
 use Rattle.answers.proofs.listing.Tie as tie
 
-accept-requires : tie.Need-accept-requires
-accept-requires c κs = search needs
-
-enum-known-o : tie.Need-enum-known-o
-enum-known-o c = search needs
-
-enum-known-o-2 : tie.Need-enum-known-o-2
-enum-known-o-2 c = search needs
-
-go-on-requires : tie.Need-go-on-requires
-go-on-requires c κs =
-    let accept-ensures = c .before .before .before .before .accept .ensures in
-    admitted _ _ _ (rw (c .before .before .o2 .given .1) at accept-ensures) .net
-
-returns : tie.Need-returns
-returns c = refused-on (refusal _) _ _ (rw (c .before .o .given .1) at (c .before .before .before .accept .ensures))
+listing-in-mode-requires : tie.Need-listing-in-mode-requires
+listing-in-mode-requires c κs = search needs
 
 same-length : tie.Need-same-length
 same-length c = search needs
 
-returns-2 : tie.Need-returns-2
-returns-2 c =
-    let o2-given = c .before .before .before .before .before .o2 .given in
-    let accept-ensures = c .before .before .before .before .before .before .before .accept .ensures in
-    let args = c .before .before .before .before .before .before .before .before .before .before .before .args in
-    let fits = c .before .before .before .before .before .before .before .before .before .before .before .fits in
-    let p = rw (o2-given .1) at accept-ensures in
-    let a = admitted _ _ _ p in
-    let e = toZ-ofZ w64 (args .floor) (fits .floor) in
-    passed-on (refusal _) _ _ _ p (rw (e, a .nodes, a .bound) at (c .before .before .go-on .ensures))
+returns : tie.Need-returns
+returns c =
+    let args = c .before .before .before .before .before .before .before .args in
+    let fits = c .before .before .before .before .before .before .before .fits in
+    rw (toZ-ofZ w64 (args .floor) (fits .floor)) at (c .before .before .listing-in-mode .ensures)
 
 pub listing-spec : {M : Type 1} → statement M
-listing-spec =
-    tie.close
-    (tie.spec
-    accept-requires
-    enum-known-o
-    enum-known-o-2
-    go-on-requires
-    returns
-    same-length
-    returns-2)
+listing-spec = tie.close (tie.spec listing-in-mode-requires same-length returns)

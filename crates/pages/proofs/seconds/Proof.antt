@@ -5,20 +5,21 @@ use mathlib.Core.Path.{_≡_, refl}
 use mathlib.Core.Logic.{⊎-elim}
 use native.Mathlib.Omega.{arith}
 use borrow.Author.Needs.{needs}
+use Rattle.limits.specs.Fits.{Fits}
 use Rattle.pages.specs.Work.{Ready, Seconds}
 use Rattle.pages.proofs.Scan.{seconds-none, seconds-add, seconds-skip}
 use Rattle.pages.proofs.seconds.Statement.{statement}
 use Rattle.pages.proofs.seconds.Tie as tie
 
 abbrev Inv-loop : tie.InvT-loop
-Inv-loop out₀ room len wt u from n bound floor k₀ v₀ out k v =
-    Seconds (λ l. l ≤ bound) len wt u from floor v out₀ (k₀ .given) (k₀ .left) out (k .given) (k .left)
+Inv-loop out₀ room len wt u from n limit floor k₀ v₀ out k v =
+    Seconds (Fits limit) len wt u from floor v out₀ (k₀ .given) (k₀ .left) out (k .given) (k .left)
     × Ready out₀ room len wt u from n (k₀ .left)
     × (from ≤ v)
     × (v ≤ n)
 
 abbrev μ-loop : tie.MeasureT-loop
-μ-loop out₀ room len wt u from n bound floor k₀ v₀ out k v = n - v
+μ-loop out₀ room len wt u from n limit floor k₀ v₀ out k v = n - v
 
 loop-holds : tie.Need-loop-holds Inv-loop μ-loop
 loop-holds c = (seconds-none, c .before .pre, omega arith, omega arith)

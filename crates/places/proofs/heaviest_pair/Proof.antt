@@ -1,6 +1,8 @@
 -- `places::heaviest_pair` meets its contract: the numbering is what `whole` asks; the best pair of places is the best
 -- pair of nodes over their climbs, and so over the net's own paths.
 use borrow.Author.Needs.{needs}
+use Rattle.limits.proofs.Tests.{within-raised, within-lowered}
+use Rattle.runs.specs.Lift.{lift}
 use Rattle.places.proofs.Numbers.{part}
 use Rattle.places.proofs.Choosing.{laid-low, chosen}
 use Rattle.places.proofs.Weighing.{d-low, w-low, heaviest}
@@ -10,14 +12,14 @@ use Rattle.places.proofs.heaviest_pair.Tie as tie
 lay-out-requires : tie.Need-lay-out-requires
 lay-out-requires c κs = search needs
 
-add-whole : tie.Need-add-whole
-add-whole c = search needs
+add-most : tie.Need-add-most
+add-most c = search needs
 
 whole-requires : tie.Need-whole-requires
 whole-requires c κs =
-    let o = c .before .before .before .before .before .before .lay-out .ensures in
+    let o = c .before .before .before .before .before .before .before .lay-out .ensures in
     let back = c .before .before .before .before .before .before .before .before .before .before .before in
-    let back = back .before .before in
+    let back = back .before .before .before in
     let g = back .pre .0 in
     let m = o .numbering in (
       record {
@@ -29,11 +31,15 @@ whole-requires c κs =
 
 returns : tie.Need-returns
 returns c =
-    let lay-out-ensures = c .before .before .before .before .before .before .before .lay-out .ensures in
+    let lay-out-ensures = c .before .before .before .before .before .before .before .before .lay-out .ensures in
+    let back = c .before .before .before .before .before .before .before .before .before .before .before in
+    let back = back .before .before .before .before in
+    let args = back .args in
     λ g.
     let o = lay-out-ensures in
-    heaviest g _ _ (o .paths g) _ _
-    (chosen (g .grown) (o .numbering) _ _ _ _ (o .distances) (o .weights) _ _ (c .whole .ensures))
+    let m = args .limit in
+    heaviest g _ _ (o .paths g) _ _ (within-raised lift (m .exact) (m .most)) (within-lowered lift (m .exact) (m .most))
+    _ (chosen (g .grown) (o .numbering) _ _ _ _ (o .distances) (o .weights) _ _ (c .whole .ensures))
 
 pub heaviest-pair-spec : {M : Type 1} → statement M
-heaviest-pair-spec = tie.close (tie.spec lay-out-requires add-whole whole-requires returns)
+heaviest-pair-spec = tie.close (tie.spec lay-out-requires add-most whole-requires returns)

@@ -1,11 +1,12 @@
--- `answers::choose` meets its contract: 13 by the number of marks; 16 where the best pair's weight is 0, for then no
--- pair is within the bound; else the best pair's fields, lowered.
+-- `answers::choose` meets its contract: 13 by the number of marks; `none` where the best pair's weight is 0, for then
+-- no pair fits the limit; else the best pair's fields, lowered.
 use mathlib.Core.Logic.{_≢_}
 use native.Mathlib.Omega.{arith}
 use borrow.Author.Needs.{needs}
 use mir.Syntax.{w64}
 use mir.ValLaws.{toZ-ofZ}
 use Rattle.table.specs.Refuse.{refused, passed}
+use Rattle.limits.proofs.Tests.{fits-most}
 use Rattle.answers.proofs.HeaviestRun.{none-within, nodes-fit, length-fits, weight-fits, run-given}
 use Rattle.answers.proofs.best.choose.Statement.{statement}
 use Rattle.answers.proofs.best.choose.Tie as tie
@@ -28,49 +29,50 @@ returns-2 c =
     let args = c .before .before .before .before .before .before .before .args in
     let pre = c .before .before .before .before .before .before .before .pre in
     passed (omega (arith, wide-ensures))
-    (refused (none-within _ (args .marks .now) pre (c .before .before .search .ensures) (omega arith)))
+    (refused (none-within _ (args .marks .now) (pre .0) (c .before .before .search .ensures) (omega arith)))
 
-cast-t12 : tie.Need-cast-t12
-cast-t12 c =
+cast-low : tie.Need-cast-low
+cast-low c =
     let search-ensures = c .before .before .before .search .ensures in
     let args = c .before .before .before .before .before .before .before .before .args in
     let pre = c .before .before .before .before .before .before .before .before .pre in
-    omega (arith, nodes-fit _ (args .marks .now) pre search-ensures (pre .few) (omega arith))
+    omega (arith, nodes-fit _ (args .marks .now) (pre .0) search-ensures (pre .0 .few) (omega arith))
 
-cast-t13 : tie.Need-cast-t13
-cast-t13 c =
+cast-high : tie.Need-cast-high
+cast-high c =
     let search-ensures = c .before .before .before .before .search .ensures in
     let args = c .before .before .before .before .before .before .before .before .before .args in
     let pre = c .before .before .before .before .before .before .before .before .before .pre in
-    omega (arith, nodes-fit _ (args .marks .now) pre search-ensures (pre .few) (omega arith))
+    omega (arith, nodes-fit _ (args .marks .now) (pre .0) search-ensures (pre .0 .few) (omega arith))
 
-sub-t14 : tie.Need-sub-t14
-sub-t14 c =
+sub-length : tie.Need-sub-length
+sub-length c =
     let search-ensures = c .before .before .before .before .before .search .ensures in
     let args = c .before .before .before .before .before .before .before .before .before .before .args in
     let pre = c .before .before .before .before .before .before .before .before .before .before .pre in
-    omega (arith, length-fits _ (args .marks .now) pre search-ensures (omega arith) .0)
+    omega (arith, length-fits _ (args .marks .now) (pre .0) search-ensures (omega arith) .0)
 
-cast-t15 : tie.Need-cast-t15
-cast-t15 c =
+cast-length : tie.Need-cast-length
+cast-length c =
     let search-ensures = c .before .before .before .before .before .search .ensures in
     let args = c .before .before .before .before .before .before .before .before .before .before .args in
     let pre = c .before .before .before .before .before .before .before .before .before .before .pre in
-    omega (arith, length-fits _ (args .marks .now) pre search-ensures (omega arith))
+    let l = length-fits _ (args .marks .now) (pre .0) search-ensures (omega arith) in
+    omega (arith, l .0, fits-most (args .limit) _ (l .1), pre .1)
 
 add-lowered : tie.Need-add-lowered
 add-lowered c =
     let search-ensures = c .before .before .before .before .before .before .search .ensures in
     let args = c .before .before .before .before .before .before .before .before .before .before .before .args in
     let pre = c .before .before .before .before .before .before .before .before .before .before .before .pre in
-    omega (arith, weight-fits _ (args .marks .now) pre search-ensures (omega arith))
+    omega (arith, weight-fits _ (args .marks .now) (pre .0) search-ensures (omega arith))
 
 sub-lowered : tie.Need-sub-lowered
 sub-lowered c =
     let search-ensures = c .before .before .before .before .before .before .search .ensures in
     let args = c .before .before .before .before .before .before .before .before .before .before .before .args in
     let pre = c .before .before .before .before .before .before .before .before .before .before .before .pre in
-    omega (arith, weight-fits _ (args .marks .now) pre search-ensures (omega arith))
+    omega (arith, weight-fits _ (args .marks .now) (pre .0) search-ensures (omega arith))
 
 lowered-requires : tie.Need-lowered-requires
 lowered-requires c κs = search needs
@@ -84,7 +86,7 @@ returns-3 c =
     let args = back .before .before .before .args in
     let pre = back .before .before .before .pre in
     let m : search-result .weight ≢ 0 = omega arith in
-    let r = run-given _ (args .marks .now) pre search-ensures m _ (c .lowered .ensures) in
+    let r = run-given _ (args .marks .now) (pre .0) search-ensures m _ (c .lowered .ensures) in
     let e = toZ-ofZ w64 (c .lowered .result) (record { sfits = c .lowered .ok }) in
     rw e (passed (omega (arith, wide-ensures)) (passed (r .run, r .heaviest .one) r))
 
@@ -97,10 +99,10 @@ choose-spec =
     returns
     search-requires
     returns-2
-    cast-t12
-    cast-t13
-    sub-t14
-    cast-t15
+    cast-low
+    cast-high
+    sub-length
+    cast-length
     add-lowered
     sub-lowered
     lowered-requires

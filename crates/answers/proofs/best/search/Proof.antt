@@ -12,20 +12,20 @@ grounded-requires c κs = search needs
 wide-requires : tie.Need-wide-requires
 wide-requires c κs = search needs
 
-long-requires : tie.Need-long-requires
-long-requires c κs = search needs
-
 heaviest-pair-requires : tie.Need-heaviest-pair-requires
 heaviest-pair-requires c κs =
-    let wide-ensures = c .before .before .before .before .before .before .wide .ensures in
-    let grounded-ensures = c .before .before .before .before .before .before .before .grounded .ensures in
-    (rw (wide-ensures .0) (ground grounded-ensures), omega (arith, c .long .ensures .1))
+    let wide-ensures = c .before .before .before .before .before .wide .ensures in
+    let grounded-ensures = c .before .before .before .before .before .before .grounded .ensures in
+    let back = c .before .before .before .before .before .before .before .before .before .before .before in
+    let back = back .before .before .before in
+    let pre = back .pre in
+    (rw (wide-ensures .0) (ground grounded-ensures), pre .1)
 
 returns : tie.Need-returns
 returns c =
-    let grounded-ensures = c .before .before .before .before .before .before .before .before .grounded .ensures in
-    let e = c .before .before .before .before .before .before .before .wide .ensures .0 in
-    rw (e, c .before .long .ensures .0) at (c .heaviest-pair .ensures (rw e (ground grounded-ensures)))
+    let grounded-ensures = c .before .before .before .before .before .before .before .grounded .ensures in
+    let e = c .before .before .before .before .before .before .wide .ensures .0 in
+    rw e at (c .heaviest-pair .ensures (rw e (ground grounded-ensures)))
 
 pub search-spec : {M : Type 1} → statement M
 search-spec =
@@ -33,6 +33,5 @@ search-spec =
     (tie.spec
     grounded-requires
     wide-requires
-    long-requires
     heaviest-pair-requires
     returns)

@@ -10,19 +10,19 @@ use mir.ValLaws.{toZ-ofZ}
 use Rattle.paths.specs.Ground.{Ground}
 use Rattle.paths.specs.Paths.{Lent}
 use Rattle.paths.proofs.Fresh.{fresh}
+use Rattle.limits.specs.Fits.{Fits}
 use Rattle.answers.proofs.Scanning.{Scanning, scanning-start, scanning-ready, scanning-next, scanning-end}
 use Rattle.answers.proofs.scan.firsts.Statement.{statement}
 use Rattle.answers.proofs.scan.firsts.Tie as tie
 
 abbrev Inv-loop : tie.InvT-loop
-Inv-loop parent order place bl bw n bound floor low high rows₀ above₀ len₀ wt₀ room f k₀ u₀ rows above len wt k u =
-    Scanning n parent order place bl bw (λ l. l ≤ bound) (toZ w64 floor) low high rows₀ room f u (k .given) (k .left)
-    rows
+Inv-loop parent order place bl bw n limit floor low high rows₀ above₀ len₀ wt₀ room f k₀ u₀ rows above len wt k u =
+    Scanning n parent order place bl bw (Fits limit) (toZ w64 floor) low high rows₀ room f u (k .given) (k .left) rows
     × Ground n parent order place bl bw
     × Lent above len wt
 
 abbrev μ-loop : tie.MeasureT-loop
-μ-loop parent order place bl bw n bound floor low high rows₀ above₀ len₀ wt₀ room f k₀ u₀ rows above len wt k u =
+μ-loop parent order place bl bw n limit floor low high rows₀ above₀ len₀ wt₀ room f k₀ u₀ rows above len wt k u =
     n - u
 
 raised-requires : tie.Need-raised-requires Inv-loop μ-loop

@@ -14,9 +14,6 @@ grounded-requires c κs = search needs
 wide-requires : tie.Need-wide-requires
 wide-requires c κs = search needs
 
-long-requires : tie.Need-long-requires
-long-requires c κs = search needs
-
 wide-requires-2 : tie.Need-wide-requires-2
 wide-requires-2 c κs = search needs
 
@@ -25,9 +22,9 @@ wide-requires-3 c κs = search needs
 
 firsts-requires : tie.Need-firsts-requires
 firsts-requires c κs =
+    let wide-ensures = c .before .before .before .before .before .before .before .before .wide .ensures in
     let back = c .before .before .before .before .before .before .before .before .before in
-    let wide-ensures = back .wide .ensures in
-    let grounded-ensures = back .before .grounded .ensures in
+    let grounded-ensures = back .grounded .ensures in
     rw (wide-ensures .0) (ground grounded-ensures)
 
 same-length : tie.Need-same-length
@@ -37,9 +34,7 @@ returns : tie.Need-returns
 returns c =
     let wide3-ensures = c .before .before .before .before .wide3 .ensures in
     let wide2-ensures = c .before .before .before .before .before .wide2 .ensures in
-    let long-ensures = c .before .before .before .before .before .before .long .ensures in
     let back = c .before .before .before .before .before .before .before .before .before .before .before in
-    let back = back .before in
     let wide-ensures = back .wide .ensures in
     let grounded-ensures = back .before .grounded .ensures in
     let back = back .before .before .before .before .before .before .before .before .before .before in
@@ -47,7 +42,7 @@ returns c =
     let fits = back .fits in
     let e = toZ-ofZ w64 (args .floor) (fits .floor) in
     scanned (wide-ensures .0) grounded-ensures
-    (rw (e, long-ensures .0, wide2-ensures .0, wide3-ensures .0) at (c .before .before .firsts .ensures))
+    (rw (e, wide2-ensures .0, wide3-ensures .0) at (c .before .before .firsts .ensures))
 
 pub page-spec : {M : Type 1} → statement M
 page-spec =
@@ -55,7 +50,6 @@ page-spec =
     (tie.spec
     grounded-requires
     wide-requires
-    long-requires
     wide-requires-2
     wide-requires-3
     firsts-requires

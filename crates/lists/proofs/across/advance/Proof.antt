@@ -9,7 +9,7 @@ use Rattle.lists.proofs.across.advance.Tie as tie
 
 abbrev Inv-loop : tie.InvT-loop
 Inv-loop down name d w m e key limit j₀ node₀ j node =
-    Walkable d down m e key × Sofar name d w down m e j node × Going d down e key limit j₀ j
+    Walkable d down m e key × Sofar (limit .exact) name d w down m e j node × Going d down e key (limit .most) j₀ j
 
 abbrev μ-loop : tie.MeasureT-loop
 μ-loop down name d w m e key limit j₀ node₀ j node = e - j
@@ -51,14 +51,14 @@ add-if1 c =
 
 returns : tie.Need-returns Inv-loop μ-loop
 returns c =
-    let h = c .before .before .before .before .before .loop .inv in
-    (h .1, going-stop _ _ _ _ _ _ _ _ (h .2) (c .before .before .wide .ensures .0) (c .if1 .taken))
+    let h = c .before .before .before .before .before .before .loop .inv in
+    (h .1, going-stop _ _ _ _ _ _ _ _ (h .2) (c .before .before .before .wide .ensures .0) (c .if1 .taken))
 
-prefer-requires : tie.Need-prefer-requires Inv-loop μ-loop
-prefer-requires c κs =
-    let h = c .before .before .before .before .before .loop .inv in
-    let n = h .0 .nodes .node _ (h .1 .low) (c .before .before .before .before .loop-test .taken) in
-    (omega (arith, n, c .before .before .wide .ensures .0), h .1 .small)
+pick-requires : tie.Need-pick-requires Inv-loop μ-loop
+pick-requires c κs =
+    let h = c .before .before .before .before .before .before .loop .inv in
+    let n = h .0 .nodes .node _ (h .1 .low) (c .before .before .before .before .before .loop-test .taken) in
+    (omega (arith, n, c .before .before .before .wide .ensures .0), h .1 .small)
 
 add-j : tie.Need-add-j Inv-loop μ-loop
 add-j c = omega arith
@@ -68,12 +68,12 @@ loop-less c = omega arith
 
 loop-again : tie.Need-loop-again Inv-loop μ-loop
 loop-again c =
-    let loop-test-taken = c .before .before .before .before .before .loop-test .taken in
-    let h = c .before .before .before .before .before .before .loop .inv in
+    let loop-test-taken = c .before .before .before .before .before .before .loop-test .taken in
+    let h = c .before .before .before .before .before .before .before .loop .inv in
     let n = h .0 .nodes .node _ (h .1 .low) loop-test-taken in
-    let q = c .before .before .before .wide .ensures .0 in (
+    let q = c .before .before .before .before .wide .ensures .0 in (
       h .0,
-      sofar-more _ _ _ _ _ _ _ _ _ _ (h .1) loop-test-taken q (omega (arith, n, q)) (c .prefer .ensures),
+      sofar-more _ _ _ _ _ _ _ _ _ _ _ (h .1) loop-test-taken q (omega (arith, n, q)) (h .0 .sorted) (c .pick .ensures),
       going-more _ _ _ _ _ _ _ _ (h .2) q (c .before .if1 .left),
     )
 
@@ -96,7 +96,7 @@ advance-spec =
     element-copy-out-if1
     add-if1
     returns
-    prefer-requires
+    pick-requires
     add-j
     loop-less
     loop-again

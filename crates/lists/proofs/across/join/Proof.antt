@@ -50,6 +50,7 @@ advance-requires c κs =
       record {
         within = g .within;
         nodes = g .down-nodes;
+        sorted = g .down-sorted;
         keys = g .given .down-key;
         here = g .given .up-key .small _ (sweep-node _ _ _ _ _ _ _ _ _ _ _ _ _ _ _ _ _ (h .0) (h .1) t q);
       },
