@@ -1,4 +1,5 @@
--- HOLDERS NEVER SHOW: two sets of marks of one number, free at the same places, give equal outcomes of the listing, whoever the holders are. The marks enter a promise through what a branch weighs alone.
+-- HOLDERS NEVER SHOW: two sets of marks of one number, free at the same places, give equal outcomes of the listing,
+-- whoever the holders are. The marks enter a promise through what a branch weighs alone.
 use Prim.Native.Nat.{ℕ}
 use mathlib.Core.Path.{_≡_, sym, _∙_}
 use mathlib.Core.List.{List}
@@ -19,32 +20,61 @@ use Rattle.answers.proofs.ListingOnly.{listing-within-only}
 
 module _ (s marks marks′ : List ℕ) (h : Alike marks marks′) (n : ℕ) where
   pub path-alike : {a b l : ℕ} {w : ℤ} → PathOf s marks n a b l w → PathOf s marks′ n a b l w
-  path-alike p = record { rows = p .rows; path = p .path; length = p .length; weight = sym (total-same (weightUnder s marks) (weightUnder s marks′) (p .rows) (holders-alike s marks marks′ h)) ∙ p .weight }
+  path-alike p =
+      record {
+        rows = p .rows;
+        path = p .path;
+        length = p .length;
+        weight = sym
+            (total-same (weightUnder s marks) (weightUnder s marks′) (p .rows) (holders-alike s marks marks′ h))
+            ∙ p .weight;
+      }
 
-  qualifies-alike : {Within : ℕ → Type 0} {floor : ℤ} (e : Entry) → Qualifies (PathOf s marks n) Within floor n e → Qualifies (PathOf s marks′ n) Within floor n e
-  qualifies-alike e q = record { pair = q .pair; node = q .node; path = path-alike (q .path); short = q .short; heavy = q .heavy }
+  qualifies-alike : {Within : ℕ → Type 0} {floor : ℤ} (e : Entry) → Qualifies (PathOf s marks n) Within floor n e
+      → Qualifies (PathOf s marks′ n) Within floor n e
+  qualifies-alike e q =
+      record { pair = q .pair; node = q .node; path = path-alike (q .path); short = q .short; heavy = q .heavy }
 
 pub flip : (marks marks′ : List ℕ) → Alike marks marks′ → Alike marks′ marks
 flip marks marks′ h r = (h r .1, h r .0)
 
-lists-alike : (s marks marks′ : List ℕ) → Alike marks marks′ → (Within : ℕ → Type 0) (floor : ℤ) (n low high : ℕ) (old : List ℕ) {x : Outcome}
-    → Lists (Qualifies (PathOf s marks n) Within floor n) low high old x → Lists (Qualifies (PathOf s marks′ n) Within floor n) low high old x
-lists-alike s marks marks′ h Within floor n low high old p = record {
-  taken = p .taken;
-  number = p .number;
-  row = p .row;
-  page = record { some = p .page .some; page = page-iff (qualifies-alike s marks marks′ h n) (qualifies-alike s marks′ marks (flip marks marks′ h) n) (p .page .page); count = p .page .count; bytes = p .page .bytes };
-}
+lists-alike : (s marks marks′ : List ℕ) → Alike marks marks′
+    → (Within : ℕ → Type 0) (floor : ℤ) (n low high : ℕ) (old : List ℕ) {x : Outcome}
+    → Lists (Qualifies (PathOf s marks n) Within floor n) low high old x
+    → Lists (Qualifies (PathOf s marks′ n) Within floor n) low high old x
+lists-alike s marks marks′ h Within floor n low high old p =
+    record {
+      taken = p .taken;
+      number = p .number;
+      row = p .row;
+      page = record {
+        some = p .page .some;
+        page = page-iff (qualifies-alike s marks marks′ h n) (qualifies-alike s marks′ marks (flip marks marks′ h) n)
+            (p .page .page);
+        count = p .page .count;
+        bytes = p .page .bytes;
+      };
+    }
 
-goes-alike : (s marks marks′ : List ℕ) → Alike marks marks′ → length marks ≡ length marks′ → (Within : ℕ → Type 0) (floor : ℤ) (n low high : ℕ) (old : List ℕ) {x : Outcome}
+goes-alike : (s marks marks′ : List ℕ) → Alike marks marks′ → length marks ≡ length marks′
+    → (Within : ℕ → Type 0) (floor : ℤ) (n low high : ℕ) (old : List ℕ) {x : Outcome}
     → Goes Within s n marks floor low high old x → Goes Within s n marks′ floor low high old x
-goes-alike s marks marks′ h e Within floor n low high old p = rw (← e) (unless-map (λ o. o) (λ _. unless-map (λ o. o) (λ _. lists-alike s marks marks′ h Within floor n low high old)) p)
+goes-alike s marks marks′ h e Within floor n low high old p =
+    rw (← e)
+    (unless-map (λ o. o) (λ _. unless-map (λ o. o) (λ _. lists-alike s marks marks′ h Within floor n low high old)) p)
 
-listing-alike : (s marks marks′ : List ℕ) → Alike marks marks′ → length marks ≡ length marks′ → (Within : ℕ → Type 0) (floor : ℤ) (low high : ℕ) (old : List ℕ) {x : Outcome}
+listing-alike : (s marks marks′ : List ℕ) → Alike marks marks′ → length marks ≡ length marks′
+    → (Within : ℕ → Type 0) (floor : ℤ) (low high : ℕ) (old : List ℕ) {x : Outcome}
     → ListingWithin Within s marks floor low high old x → ListingWithin Within s marks′ floor low high old x
 listing-alike s marks marks′ h e Within floor low high old p =
-    tested-map (λ o. o) (refusal old) s (λ _. first-bad-map (λ o. o) (λ _. unless-map (λ o. o) (λ _. goes-alike s marks marks′ h e Within floor (nodesOf s) low high old))) p
+    tested-map (λ o. o) (refusal old) s
+    (λ _. first-bad-map (λ o. o)
+    (λ _. unless-map (λ o. o) (λ _. goes-alike s marks marks′ h e Within floor (nodesOf s) low high old)))
+    p
 
-pub holders-never-show : (Within : ℕ → Type 0) (s marks marks′ : List ℕ) → Alike marks marks′ → length marks ≡ length marks′ → (floor : ℤ) (low high : ℕ) (old : List ℕ) (x y : Outcome)
+pub holders-never-show : (Within : ℕ → Type 0) (s marks marks′ : List ℕ) → Alike marks marks′
+    → length marks ≡ length marks′ → (floor : ℤ) (low high : ℕ) (old : List ℕ) (x y : Outcome)
     → ListingWithin Within s marks floor low high old x → ListingWithin Within s marks′ floor low high old y → x ≡ y
-holders-never-show Within s marks marks′ h e floor low high old x y p q = listing-within-only Within s marks′ floor low high old x y (listing-alike s marks marks′ h e Within floor low high old p) q
+holders-never-show Within s marks marks′ h e floor low high old x y p q =
+    listing-within-only Within s marks′ floor low high old x y
+    (listing-alike s marks marks′ h e Within floor low high old p) q

@@ -1,4 +1,5 @@
--- Holders never show in the pair's answer: two sets of marks of one number, free at the same places, give equal outcomes.
+-- Holders never show in the pair's answer: two sets of marks of one number, free at the same places, give equal
+-- outcomes.
 use Prim.Native.Nat.{ℕ}
 use mathlib.Core.Path.{_≡_}
 use mathlib.Core.List.{List}
@@ -13,10 +14,16 @@ use Rattle.answers.proofs.PairOnly.{pair-only}
 
 module _ (s marks marks′ : List ℕ) (h : Alike marks marks′) (e : length marks ≡ length marks′) (a b : ℕ) where
   shows-alike : (n : ℕ) {x : Outcome} → Shows s marks n a b x → Shows s marks′ n a b x
-  shows-alike n p = record { number = p .number; row = p .row; path = path-alike s marks marks′ h n (p .path); hops = p .hops }
+  shows-alike n p =
+      record { number = p .number; row = p .row; path = path-alike s marks marks′ h n (p .path); hops = p .hops }
 
   pair-alike : {x : Outcome} → PairOf s marks a b x → PairOf s marks′ a b x
-  pair-alike p = tested-map (λ o. o) refusal s (λ _. first-bad-map (λ o. o) (λ _. unless-map (λ o. o) (λ _ q. rw (← e) (unless-map (λ o. o) (λ _. unless-map (λ o. o) (λ _. shows-alike (nodesOf s))) q)))) p
+  pair-alike p =
+      tested-map (λ o. o) refusal s
+      (λ _. first-bad-map (λ o. o)
+      (λ _. unless-map (λ o. o)
+      (λ _ q. rw (← e) (unless-map (λ o. o) (λ _. unless-map (λ o. o) (λ _. shows-alike (nodesOf s))) q))))
+      p
 
   pub pair-holders : (x y : Outcome) → PairOf s marks a b x → PairOf s marks′ a b y → x ≡ y
   pair-holders x y p q = pair-only s marks′ a b x y (pair-alike p) q

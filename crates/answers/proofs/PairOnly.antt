@@ -21,4 +21,5 @@ shows-only s marks n a b t x y p q =
     λ i. record { number = k i; row = r i; length = l i; weight = w i; hops = h i }
 
 pub pair-only : (s marks : List ℕ) (a b : ℕ) → Only (PairOf s marks a b)
-pair-only s marks a b = begins-net-only refusal s (λ t. unless-only (unless-only (shows-only s marks (nodesOf s) a b t)))
+pair-only s marks a b =
+    begins-net-only refusal s (λ t. unless-only (unless-only (shows-only s marks (nodesOf s) a b t)))

@@ -20,7 +20,8 @@ use Rattle.answers.specs.declared.between.PairAnswer.the-variants.{Found
 use Rattle.answers.proofs.Branching.{ground}
 
 -- the code works with n, x and y, which are the numbers nodes, a and b made wide
-module _ {s marks parent order place bl bw : List ℕ} {n x y nodes a b : ℕ} (e : n ≡ nodes) (ex : x ≡ a) (ey : y ≡ b) (two : TwoNodes nodes a b) (given : Grounded s marks nodes parent order place bl bw) where
+module _ {s marks parent order place bl bw : List ℕ} {n x y nodes a b : ℕ} (e : n ≡ nodes) (ex : x ≡ a) (ey : y ≡ b)
+    (two : TwoNodes nodes a b) (given : Grounded s marks nodes parent order place bl bw) where
   stands : Grounded s marks n parent order place bl bw
   stands = rw e given
 
@@ -36,7 +37,8 @@ module _ {s marks parent order place bl bw : List ℕ} {n x y nodes a b : ℕ} (
   pub pair-begun : Begun n x parent order place bl bw × (y < n)
   pair-begun = (record { ground = ground stands; node = low .0 }, low .1)
 
-  module _ {l q : ℕ} (way : (g : Ground n parent order place bl bw) → WayOf g x y l q) {w : ℤ} (lower : LoweredOf q w) where
+  module _ {l q : ℕ} (way : (g : Ground n parent order place bl bw) → WayOf g x y l q) {w : ℤ}
+      (lower : LoweredOf q w) where
     path : PathOf s marks n x y l w
     path = let f = way (ground stands) in f .value w (lower .back (f .small))
 
@@ -44,4 +46,12 @@ module _ {s marks parent order place bl bw : List ℕ} {n x y nodes a b : ℕ} (
     pair-short = path-short (stands .net) (low .0) path
 
     pub pair-shown : {h : ℕ} → HopsBy n parent place x y h → Shows s marks nodes a b (outcome (Found l w h))
-    pair-shown h = rw (← e, ← ex, ← ey) (record { number = refl; row = refl; path = path; hops = h .hops (firstEnd s) (secondEnd s) (n - 1) (λ v. at (stands .half) v / 2) (walk-rooted (stands .net) (stands .walked)) })
+    pair-shown h =
+        rw (← e, ← ex, ← ey)
+        (record {
+          number = refl;
+          row = refl;
+          path = path;
+          hops = h .hops (firstEnd s) (secondEnd s) (n - 1) (λ v. at (stands .half) v / 2)
+              (walk-rooted (stands .net) (stands .walked));
+        })

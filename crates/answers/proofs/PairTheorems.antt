@@ -1,4 +1,5 @@
--- Theorems on the pair's answer: what an answer without a number shows, that its hops are bounded, and that the order of the two nodes does not matter.
+-- Theorems on the pair's answer: what an answer without a number shows, that its hops are bounded, and that the order
+-- of the two nodes does not matter.
 use Prim.Native.Nat.{ℕ, _+_, _-_, _*_, _≤_}
 use mathlib.Core.Path.{_≡_, ap, _∙_}
 use mathlib.Core.List.{List}
@@ -31,7 +32,9 @@ module _ (s marks : List ℕ) (a b : ℕ) (x : Outcome) (z : x .number ≡ 0) (p
       (n .0, r .0, r .1)
 
   -- its hops are at most 1 + 2 × floor(log2 of the number of leaves)
-  pub pair-hops : (l c : ℕ) → Count (Leaf (ChildOf (firstEnd s) (secondEnd s) (nodesOf s - 1) (nodesOf s)) (nodesOf s)) l → FloorLog l c → x .hops ≤ 1 + 2 * c
+  pub pair-hops : (l c : ℕ)
+      → Count (Leaf (ChildOf (firstEnd s) (secondEnd s) (nodesOf s - 1) (nodesOf s)) (nodesOf s)) l → FloorLog l c
+      → x .hops ≤ 1 + 2 * c
   pair-hops l c h f = let q = pair-shows in hops-at-most (q .0) (q .1 .first) (q .1 .second) (q .2 .hops) h f
 
 -- Either order
@@ -39,11 +42,23 @@ two-flip : {n a b : ℕ} → TwoNodes n a b → TwoNodes n b a
 two-flip t = record { first = t .second; second = t .first; apart = λ e. t .apart (omega (arith, e)) }
 
 shows-flip : {s marks : List ℕ} {n a b : ℕ} {x : Outcome} → Shows s marks n a b x → Shows s marks n b a x
-shows-flip {s} p = record { number = p .number; row = p .row; path = value-flip (firstEnd s) (secondEnd s) (p .path); hops = hops-flip (p .hops) }
+shows-flip {s} p =
+    record {
+      number = p .number;
+      row = p .row;
+      path = value-flip (firstEnd s) (secondEnd s) (p .path);
+      hops = hops-flip (p .hops);
+    }
 
-nodes-flip : {s marks : List ℕ} {n a b : ℕ} {x : Outcome} → Unless Outcome (refusal 15 0) (TwoNodes n a b) (Shows s marks n a b) x → Unless Outcome (refusal 15 0) (TwoNodes n b a) (Shows s marks n b a) x
+nodes-flip : {s marks : List ℕ} {n a b : ℕ} {x : Outcome}
+    → Unless Outcome (refusal 15 0) (TwoNodes n a b) (Shows s marks n a b) x
+    → Unless Outcome (refusal 15 0) (TwoNodes n b a) (Shows s marks n b a) x
 nodes-flip (refused c) = refused (λ t. c (two-flip t))
 nodes-flip (passed t p) = passed (two-flip t) (shows-flip p)
 
 pub pair-either : (s marks : List ℕ) (a b : ℕ) (x y : Outcome) → PairOf s marks a b x → PairOf s marks b a y → x ≡ y
-pair-either s marks a b x y p q = pair-only s marks b a x y (tested-map (λ o. o) refusal s (λ _. first-bad-map (λ o. o) (λ _. unless-map (λ o. o) (λ _. unless-map (λ o. o) (λ _. nodes-flip)))) p) q
+pair-either s marks a b x y p q =
+    pair-only s marks b a x y
+    (tested-map (λ o. o) refusal s
+    (λ _. first-bad-map (λ o. o) (λ _. unless-map (λ o. o) (λ _. unless-map (λ o. o) (λ _. nodes-flip)))) p)
+    q

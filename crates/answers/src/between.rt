@@ -1,4 +1,5 @@
-// The operation pair: the path between two nodes, its length, its weight under the marks, and the spines that it touches.
+// The operation pair: the path between two nodes, its length, its weight under the marks, and the spines that it
+// touches.
 ghost use Prim.Native.Nat.{_<_};
 ghost use Rattle.tree.specs.Net.{Net, TwoNodes};
 ghost use Rattle.paths.specs.Ground.{Ground};
@@ -101,7 +102,9 @@ fn way_between(
     y: usize,
 ) -> Way
     requires { ⌜ Begun n x (now parent) (now order) (now place) (now bl) (now bw) × (y < n) ⌝ }
-    ensures { λ r. ⌜ ((g : Ground n (now (parent .entry)) (now (order .entry)) (now (place .entry)) (now (bl .entry)) (now (bw .entry))) → WayOf g x y (r .length) (r .weight)) ⌝ }
+    ensures { λ r. ⌜ ((g : Ground n (now (parent .entry)) (now (order .entry)) (now (place .entry)) (now (bl .entry))
+        (now (bw .entry)))
+        → WayOf g x y (r .length) (r .weight)) ⌝ }
 {
     let mut above: [u16; 4096] = [0; 4096];
     let mut len: [u64; 4096] = [0; 4096];

@@ -1,4 +1,5 @@
--- Claim over a walk: the climbs of the two nodes up to where they meet make the path, so what was measured and taken on them is the path's.
+-- Claim over a walk: the climbs of the two nodes up to where they meet make the path, so what was measured and taken on
+-- them is the path's.
 use mathlib.Core.Path.{_≡_, refl, sym, _∙_}
 use mathlib.Core.Logic.{_≢_}
 use mathlib.Core.List.{List, _++_}
@@ -35,15 +36,30 @@ module _ {s : List ℕ} {n : ℕ} {parent half place : List ℕ} (N : Net s n) (
   pub walk-hung : Hung n parent place
   walk-hung = grown-hung grown
 
-  pub climb-of : {marks : List ℕ} {x t : ℕ} → length marks ≡ n - 1 → x < n → Above (at parent) t x → Climb marks parent half place x t
+  pub climb-of : {marks : List ℕ} {x t : ℕ} → length marks ≡ n - 1 → x < n → Above (at parent) t x
+      → Climb marks parent half place x t
   climb-of {x = x} e b h =
       let q = above-rise h in
-      record { nodes = n; few = N .few; many = e; first = firstEnd s; second = secondEnd s; rooted = rooted; fits = b; low = grown .here x b .0; rows = q .0; rise = q .1 }
+      record {
+        nodes = n;
+        few = N .few;
+        many = e;
+        first = firstEnd s;
+        second = secondEnd s;
+        rooted = rooted;
+        fits = b;
+        low = grown .here x b .0;
+        rows = q .0;
+        rise = q .1;
+      }
 
-  module _ {before : List ℕ} {run a b t : ℕ} (R : Ready s before n run a b) (m : Meets (at parent) a b t) {l l′ k k′ : ℕ}
-      (ups : Measured s before parent half a t l k) (downs : Measured s before parent half b t l′ k′) where
+  module _ {before : List ℕ} {run a b t : ℕ} (R : Ready s before n run a b) (m : Meets (at parent) a b t)
+      {l l′ k k′ : ℕ} (ups : Measured s before parent half a t l k)
+      (downs : Measured s before parent half b t l′ k′) where
     whole : Whole rooted a b (ups .rows) (downs .rows)
-    whole = two-rises rooted (R .pair .first) (R .pair .second) (ups .rise) (downs .rise) (λ z h j d. meets-apart walk-hung (R .pair .first) m h j d)
+    whole =
+        two-rises rooted (R .pair .first) (R .pair .second) (ups .rise) (downs .rise)
+        (λ z h j d. meets-apart walk-hung (R .pair .first) m h j d)
 
     long : Sum (lengthOf s) (whole .rows) ≡ l + l′
     long = whole .sum (lengthOf s) ∙ omega (arith, ups .long, downs .long)
@@ -56,10 +72,12 @@ module _ {s : List ℕ} {n : ℕ} {parent half place : List ℕ} (N : Net s n) (
 
     module _ {bound : ℕ} (near : l + l′ ≤ bound) where
       pub all-marked : k + k′ ≡ 0 → Ended s n bound before run a b (refusal before 19 0)
-      all-marked z = passed (record { rows = whole .rows; path = whole .path; short = omega (arith, long) }) (refused (none-free N before whole (frees ∙ z)))
+      all-marked z =
+          passed (record { rows = whole .rows; path = whole .path; short = omega (arith, long) })
+          (refused (none-free N before whole (frees ∙ z)))
 
-      pub all-taken : {mid after : List ℕ} → k + k′ ≢ 0 → Climbed parent half a t run before mid → Climbed parent half b t run mid after
-          → Ended s n bound before run a b (outcome (Changed (k + k′)) after)
+      pub all-taken : {mid after : List ℕ} → k + k′ ≢ 0 → Climbed parent half a t run before mid
+          → Climbed parent half b t run mid after → Ended s n bound before run a b (outcome (Changed (k + k′)) after)
       all-taken {mid} {after} z p q =
           passed (record { rows = whole .rows; path = whole .path; short = omega (arith, long) })
           (passed (some-free N before whole (λ e. z (sym frees ∙ e)))

@@ -1,4 +1,5 @@
--- Each promise of this crate allows one outcome: along the list of refusals, and a change leaves one list of marks and one count. And an outcome is that of one answer.
+-- Each promise of this crate allows one outcome: along the list of refusals, and a change leaves one list of marks and
+-- one count. And an outcome is that of one answer.
 use mathlib.Core.Path.{_≡_, ap}
 use mathlib.Core.Bool.{cond}
 use mathlib.Core.List.{List}
@@ -23,11 +24,16 @@ pub abort-only : (s before : List ℕ) (run : ℕ) → Only (Aborts s before run
 abort-only = settles-only _
 
 pub claim-only : (s before : List ℕ) (run a b : ℕ) → Only (Claims s before run a b)
-claim-only s before run a b = begins-only (refusal before) s (unless-only (unless-only (unless-only (unless-only (unless-only done-only)))))
+claim-only s before run a b =
+    begins-only (refusal before) s (unless-only (unless-only (unless-only (unless-only (unless-only done-only)))))
 
 -- so a promise determines the answer itself: an outcome is that of one answer
 pub change-one : (x y : Change) (l m : List ℕ) → outcome x l ≡ outcome y m → x ≡ y
 change-one (Changed k) (Changed j) l m e = λ i. Changed (e i .count)
-change-one (Changed k) (Refused w) l m e = let f : _≡_ {A = ℕ} 0 1 = ap (λ (o : Outcome). cond (o .refused) 1 0) e in absurd (omega (arith, f))
-change-one (Refused w) (Changed k) l m e = let f : _≡_ {A = ℕ} 1 0 = ap (λ (o : Outcome). cond (o .refused) 1 0) e in absurd (omega (arith, f))
+change-one (Changed k) (Refused w) l m e =
+    let f : _≡_ {A = ℕ} 0 1 = ap (λ (o : Outcome). cond (o .refused) 1 0) e in
+    absurd (omega (arith, f))
+change-one (Refused w) (Changed k) l m e =
+    let f : _≡_ {A = ℕ} 1 0 = ap (λ (o : Outcome). cond (o .refused) 1 0) e in
+    absurd (omega (arith, f))
 change-one (Refused w) (Refused v) l m e = λ i. Refused (record { number = e i .number; row = e i .row })

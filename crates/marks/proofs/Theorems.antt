@@ -1,5 +1,6 @@
--- What a reader of demand 2 looks for: claim, commit and abort change exactly the marks named, and a claim's two nodes may stand in either order.
--- Each is read off the promises; an outcome with number 0 is one in which nothing was refused.
+-- What a reader of demand 2 looks for: claim, commit and abort change exactly the marks named, and a claim's two nodes
+-- may stand in either order. Each is read off the promises; an outcome with number 0 is one in which nothing was
+-- refused.
 use mathlib.Core.Path.{_≡_, sym, ap, _∙_}
 use mathlib.Core.Logic.{_≢_}
 use mathlib.Core.List.{List}
@@ -27,22 +28,28 @@ plain before good k r n e = n (ap (λ (x : Outcome). x .number) e ∙ good)
 
 module _ (s before : List ℕ) {o : Outcome} (good : Good o) where
   -- a commit or an abort that is not refused: a run's number, and what it holds, no more and no less, has the new mark
-  settled : {m run : ℕ} → Settles m s before run o → RunNumber run × Changes (λ r. HeldBy run (at before r)) m before (o .marks) (o .count)
+  settled : {m run : ℕ} → Settles m s before run o
+      → RunNumber run × Changes (λ r. HeldBy run (at before r)) m before (o .marks) (o .count)
   settled p =
-      let a = past (plain before good 13 0 (λ e. omega (arith, e))) (begins-past (refusal before) s (plain before good) p .1) in
+      let a = past (plain before good 13 0 (λ e. omega (arith, e)))
+      (begins-past (refusal before) s (plain before good) p .1) in
       let b = past (plain before good 14 0 (λ e. omega (arith, e))) (a .1) in
       (b .0, b .1 .marks)
 
-  pub committed : {run : ℕ} → Commits s before run o → RunNumber run × Changes (λ r. HeldBy run (at before r)) spent before (o .marks) (o .count)
+  pub committed : {run : ℕ} → Commits s before run o
+      → RunNumber run × Changes (λ r. HeldBy run (at before r)) spent before (o .marks) (o .count)
   committed = settled
 
-  pub aborted : {run : ℕ} → Aborts s before run o → RunNumber run × Changes (λ r. HeldBy run (at before r)) free before (o .marks) (o .count)
+  pub aborted : {run : ℕ} → Aborts s before run o
+      → RunNumber run × Changes (λ r. HeldBy run (at before r)) free before (o .marks) (o .count)
   aborted = settled
 
   -- a claim that is not refused: the free branches of the path, no more and no less, are held by the run
-  pub claimed : {run a b : ℕ} → Claims s before run a b o → RunNumber run × Changes (Taken s before (nodesOf s) a b) run before (o .marks) (o .count)
+  pub claimed : {run a b : ℕ} → Claims s before run a b o
+      → RunNumber run × Changes (Taken s before (nodesOf s) a b) run before (o .marks) (o .count)
   claimed p =
-      let x = past (plain before good 13 0 (λ e. omega (arith, e))) (begins-past (refusal before) s (plain before good) p .1) in
+      let x = past (plain before good 13 0 (λ e. omega (arith, e)))
+      (begins-past (refusal before) s (plain before good) p .1) in
       let y = past (plain before good 14 0 (λ e. omega (arith, e))) (x .1) in
       let z = past (plain before good 15 0 (λ e. omega (arith, e))) (y .1) in
       let u = past (plain before good 18 0 (λ e. omega (arith, e))) (z .1) in
@@ -50,19 +57,23 @@ module _ (s before : List ℕ) {o : Outcome} (good : Good o) where
       (y .0, v .1 .marks)
 
   -- A CLAIM NEVER TOUCHES A MARK THAT WAS NOT FREE
-  pub claim-keeps : {run a b : ℕ} → Claims s before run a b o → (r : ℕ) → (Free (at before r) → ⊥) → at (o .marks) r ≡ at before r
+  pub claim-keeps : {run a b : ℕ} → Claims s before run a b o → (r : ℕ) → (Free (at before r) → ⊥)
+      → at (o .marks) r ≡ at before r
   claim-keeps p r n = claimed p .1 .stays r (λ t. n (t .free))
 
 -- A CLAIM TAKES ITS TWO NODES IN EITHER ORDER
-pub claim-either : (s before : List ℕ) {run a b : ℕ} {o : Outcome} → Claims s before run a b o → Claims s before run b a o
+pub claim-either : (s before : List ℕ) {run a b : ℕ} {o : Outcome} → Claims s before run a b o
+    → Claims s before run b a o
 claim-either s before p =
     tested-map (λ o. o) (refusal before) s (λ _. first-bad-map (λ o. o) (λ _. unless-map (λ o. o) (λ _.
     unless-map (λ o. o) (λ _. unless-map (λ o. o) (λ _. unless-alike nodes-flip nodes-flip ended-flip))))) p
 
 -- AFTER CLAIM THEN ABORT of a run that held nothing before, the marks are as they were
-pub claim-abort : (s before : List ℕ) {run a b : ℕ} {o q : Outcome} → Good o → Good q → ((r : ℕ) → HeldBy run (at before r) → ⊥)
-    → Claims s before run a b o → Aborts s (o .marks) run q → q .marks ≡ before
-claim-abort s before {run} {a} {b} {o} {q} g h none p t = ext-getD 0 (q .marks) before (y .same-many ∙ x .same-many) (λ r l. each r (ℕ-discrete (at (o .marks) r) run))
+pub claim-abort : (s before : List ℕ) {run a b : ℕ} {o q : Outcome} → Good o → Good q
+    → ((r : ℕ) → HeldBy run (at before r) → ⊥) → Claims s before run a b o → Aborts s (o .marks) run q
+    → q .marks ≡ before
+claim-abort s before {run} {a} {b} {o} {q} g h none p t =
+    ext-getD 0 (q .marks) before (y .same-many ∙ x .same-many) (λ r l. each r (ℕ-discrete (at (o .marks) r) run))
   where
     x : Changes (Taken s before (nodesOf s) a b) run before (o .marks) (o .count)
     x = claimed s before g p .1
@@ -84,8 +95,12 @@ claim-abort s before {run} {a} {b} {o} {q} g h none p t = ext-getD 0 (q .marks) 
     each r (no n) = y .stays r n ∙ kept r n
 
 -- AFTER COMMIT, ABORT of the same run changes nothing
-pub commit-abort : (s before : List ℕ) {run : ℕ} {o q : Outcome} → Good o → Good q → Commits s before run o → Aborts s (o .marks) run q → (q .marks ≡ o .marks) × (q .count ≡ 0)
-commit-abort s before {run} {o} {q} g h p t = (ext-getD 0 (q .marks) (o .marks) (y .same-many) (λ r l. y .stays r (none r)), count-unique (y .count) (count-none none))
+pub commit-abort : (s before : List ℕ) {run : ℕ} {o q : Outcome} → Good o → Good q → Commits s before run o
+    → Aborts s (o .marks) run q → (q .marks ≡ o .marks) × (q .count ≡ 0)
+commit-abort s before {run} {o} {q} g h p t = (
+  ext-getD 0 (q .marks) (o .marks) (y .same-many) (λ r l. y .stays r (none r)),
+  count-unique (y .count) (count-none none),
+)
   where
     N : RunNumber run
     N = committed s before g p .0

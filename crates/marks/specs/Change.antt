@@ -1,4 +1,5 @@
--- What claim, commit and abort leave: whether they were refused, with number and row, how many marks changed, and the lent marks. And what commit and abort promise.
+-- What claim, commit and abort leave: whether they were refused, with number and row, how many marks changed, and the
+-- lent marks. And what commit and abort promise.
 use mathlib.Core.Path.{_≡_}
 use mathlib.Core.Bool.{Bool, true, false}
 use mathlib.Core.List.{List}

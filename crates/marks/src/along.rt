@@ -1,4 +1,5 @@
-// Claim, along the path: both nodes climb to where their climbs meet. First the path is measured, then its free branches are taken.
+// Claim, along the path: both nodes climb to where their climbs meet. First the path is measured, then its free
+// branches are taken.
 ghost use mathlib.Core.Path.{_≡_};
 ghost use Prim.Native.Nat.{_<_};
 ghost use lib.ListN.{length};
@@ -37,8 +38,10 @@ fn measure(
     x: usize,
     t: usize,
 ) -> Rising
-    requires { ⌜ Climb (now marks) (now parent) (now half) (now place) x t × ShortRows (now table) (length (now marks)) ⌝ }
-    ensures { λ r. ⌜ Measured (now (table .entry)) (now (marks .entry)) (now (parent .entry)) (now (half .entry)) x t (r .length) (r .free) ⌝ }
+    requires { ⌜ Climb (now marks) (now parent) (now half) (now place) x t
+        × ShortRows (now table) (length (now marks)) ⌝ }
+    ensures { λ r. ⌜ Measured (now (table .entry)) (now (marks .entry)) (now (parent .entry)) (now (half .entry)) x t
+        (r .length) (r .free) ⌝ }
 {
     let mut v = x;
     let mut length: u64 = 0;
@@ -74,7 +77,8 @@ fn hold(
     run: u16,
 )
     requires { ⌜ Climb (now marks) (now parent) (now half) (now place) x t × (free < run) ⌝ }
-    ensures { λ _. ⌜ Climbed (now (parent .entry)) (now (half .entry)) x t run (now (marks .entry)) (now (marks .exit)) ⌝ }
+    ensures { λ _. ⌜ Climbed (now (parent .entry)) (now (half .entry)) x t run (now (marks .entry))
+        (now (marks .exit)) ⌝ }
 {
     let mut v = x;
     while v != t {
@@ -97,8 +101,10 @@ fn claim_path(
     a: u16,
     b: u16,
 ) -> Change
-    requires { ⌜ Ready (now table) (now marks) nodes run a b × Walk (now table) nodes (now parent) (now half) (now place) ⌝ }
-    ensures { λ r. ⌜ Ended (now (table .entry)) nodes bound (now (marks .entry)) run a b (outcome r (now (marks .exit))) ⌝ }
+    requires { ⌜ Ready (now table) (now marks) nodes run a b
+        × Walk (now table) nodes (now parent) (now half) (now place) ⌝ }
+    ensures { λ r. ⌜ Ended (now (table .entry)) nodes bound (now (marks .entry)) run a b
+        (outcome r (now (marks .exit))) ⌝ }
 {
     let x = arrays::wide(a);
     let y = arrays::wide(b);
@@ -127,7 +133,8 @@ fn claim_walked(
     b: u16,
 ) -> Change
     requires { ⌜ Ready (now table) (now marks) nodes run a b ⌝ }
-    ensures { λ r. ⌜ Ended (now (table .entry)) nodes bound (now (marks .entry)) run a b (outcome r (now (marks .exit))) ⌝ }
+    ensures { λ r. ⌜ Ended (now (table .entry)) nodes bound (now (marks .entry)) run a b
+        (outcome r (now (marks .exit))) ⌝ }
 {
     let mut parent: [u16; 4096] = [4096; 4096];
     let mut half: [u16; 4096] = [0; 4096];
@@ -159,7 +166,8 @@ pub(crate) fn claim_pair(
     b: u16,
 ) -> Change
     requires { ⌜ Net (now table) nodes ⌝ }
-    ensures { λ r. ⌜ Claiming (now (table .entry)) nodes bound (now (marks .entry)) run a b (outcome r (now (marks .exit))) ⌝ }
+    ensures { λ r. ⌜ Claiming (now (table .entry)) nodes bound (now (marks .entry)) run a b
+        (outcome r (now (marks .exit))) ⌝ }
 {
     if marks.len() + 1 != arrays::wide(nodes) {
         return Change::Refused(Refusal { number: 13, row: 0 });

@@ -1,4 +1,5 @@
-// The worked net of document 01, run by the gate: every operation on N5, and what it answers; and a net whose root has two children (slip 2).
+// The worked net of document 01, run by the gate: every operation on N5, and what it answers; and a net whose root has
+// two children (slip 2).
 ghost use Prim.Native.Nat.{_<_};
 use answers::Listed;
 use answers::PairAnswer;
@@ -74,9 +75,9 @@ fn net(bound: u8) -> [u8; 60] {
     ]
 }
 
-// Slip 2: node 0 has two branches and is no leaf. 0-1 of length 3 and weight 5; 0-2 of 4 and 6; bound 7. Worked out by hand: the leaves are 1 and 2, one
-// below each child, so node 0's spine goes on to the lower, 1, and 2 hangs from it and is its own head; the heaviest run, 1-2, goes through the root, with
-// length 7, weight 11 and two spines.
+// Slip 2: node 0 has two branches and is no leaf. 0-1 of length 3 and weight 5; 0-2 of 4 and 6; bound 7. Worked out by
+// hand: the leaves are 1 and 2, one below each child, so node 0's spine goes on to the lower, 1, and 2 hangs from it
+// and is its own head; the heaviest run, 1-2, goes through the root, with length 7, weight 11 and two spines.
 fn fork() -> [u8; 36] {
     [
         82,
@@ -265,7 +266,8 @@ fn listed(r: Listed, rows: &[u8]) {
     end();
 }
 
-// `listing 7 after 0 0 room 256: 0 2 1 3 2 3 left 0`, where 7 is the floor; one below all weights is shown as -8589934592, the least that is lifted.
+// `listing 7 after 0 0 room 256: 0 2 1 3 2 3 left 0`, where 7 is the floor; one below all weights is shown as
+// -8589934592, the least that is lifted.
 fn listing(t: &[u8], floor: i64, low: u16, high: u16, rows: &mut [u8]) {
     let free = [0u16; 4];
     say(b"listing");

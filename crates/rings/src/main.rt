@@ -1,4 +1,5 @@
-// Runs acceptance on nets that look like trees: n − 1 rows are no tree by their number (slip 5 of document 01), and the first closing row is named.
+// Runs acceptance on nets that look like trees: n − 1 rows are no tree by their number (slip 5 of document 01), and the
+// first closing row is named.
 ghost use Prim.Native.Nat.{_<_};
 use libc::STDOUT_FILENO;
 use tree::Acceptance;

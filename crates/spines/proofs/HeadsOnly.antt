@@ -1,4 +1,5 @@
--- The operation heads: from the heads by the walk's arrays to those of the net; its promise allows one outcome, and an outcome is that of one answer.
+-- The operation heads: from the heads by the walk's arrays to those of the net; its promise allows one outcome, and an
+-- outcome is that of one answer.
 use Prim.Native.Nat.{ℕ, _-_}
 use mathlib.Core.Path.{_≡_, refl, sym, ap, _∙_}
 use mathlib.Core.Bool.{cond}
@@ -22,20 +23,22 @@ use Rattle.spines.specs.declared.HeadsAnswer.{HeadsAnswer}
 use Rattle.spines.specs.declared.HeadsAnswer.the-variants.{Written, Refused}
 use Rattle.spines.proofs.Net.{head-net, net-head-only}
 
-pub heads-listed : (s : List ℕ) (n : ℕ) {parent half order place head before list : List ℕ} → Net s n → Walked (firstEnd s) (secondEnd s) (n - 1) n parent half order place
-    → HeadsAll n parent head → Copied head before list → length before ≡ n → Lists s before n (outcome Written list)
+pub heads-listed : (s : List ℕ) (n : ℕ) {parent half order place head before list : List ℕ} → Net s n
+    → Walked (firstEnd s) (secondEnd s) (n - 1) n parent half order place → HeadsAll n parent head
+    → Copied head before list → length before ≡ n → Lists s before n (outcome Written list)
 heads-listed s n {list} t w h c e =
-    passed {x = outcome Written list}
-    e
+    passed {x = outcome Written list} e
     (record {
       is = refl;
       long = c .long ∙ e;
-      each = λ v b. rw (c .each v (omega (arith, e))) (head-net (walk-rooted t w) (grown-tree (walk-grown t w)) (t .some) (h .each v b));
+      each = λ v b. rw (c .each v (omega (arith, e)))
+          (head-net (walk-rooted t w) (grown-tree (walk-grown t w)) (t .some) (h .each v b));
     })
 
 heads-one : (s : List ℕ) (n : ℕ) → Net s n → Only (Heads s n)
 heads-one s n t x y p q =
-    let e : x .list ≡ y .list = ext-getD 0 (x .list) (y .list) (p .long ∙ sym (q .long)) (λ i b. net-head-only (t .forest) (p .each i (rw (p .long) at b)) (q .each i (rw (p .long) at b))) in
+    let e : x .list ≡ y .list = ext-getD 0 (x .list) (y .list) (p .long ∙ sym (q .long))
+    (λ i b. net-head-only (t .forest) (p .each i (rw (p .long) at b)) (q .each i (rw (p .long) at b))) in
     p .is ∙ ap written e ∙ sym (q .is)
 
 pub heads-only : (s before : List ℕ) → Only (Headings s before)
@@ -44,6 +47,10 @@ heads-only s before = begins-net-only (refusal before) s (λ t. unless-only (hea
 -- so the promise determines the answer itself: an outcome is that of one answer
 pub heads-answer-one : (x y : HeadsAnswer) (l m : List ℕ) → outcome x l ≡ outcome y m → x ≡ y
 heads-answer-one Written Written l m e = refl
-heads-answer-one Written (Refused w) l m e = let f : _≡_ {A = ℕ} 0 1 = ap (λ (o : Outcome). cond (o .refused) 1 0) e in absurd (omega (arith, f))
-heads-answer-one (Refused w) Written l m e = let f : _≡_ {A = ℕ} 1 0 = ap (λ (o : Outcome). cond (o .refused) 1 0) e in absurd (omega (arith, f))
+heads-answer-one Written (Refused w) l m e =
+    let f : _≡_ {A = ℕ} 0 1 = ap (λ (o : Outcome). cond (o .refused) 1 0) e in
+    absurd (omega (arith, f))
+heads-answer-one (Refused w) Written l m e =
+    let f : _≡_ {A = ℕ} 1 0 = ap (λ (o : Outcome). cond (o .refused) 1 0) e in
+    absurd (omega (arith, f))
 heads-answer-one (Refused w) (Refused v) l m e = λ i. Refused (record { number = e i .number; row = e i .row })

@@ -34,6 +34,7 @@ module _ (u v : ℕ → ℕ) where
     pub joined-mono : {a b : ℕ} → Joined u v P a b → Joined u v Q a b
     joined-mono w = (_, _, walk-mono (w .2))
 
-  pub walk-snoc : {P : ℕ → Type 0} {a b c r : ℕ} {rs ns : List ℕ} → Walk u v P a rs ns b → P r → Ends u v r b c → Walk u v P a (rs ++ (r ∷ [])) (ns ++ (c ∷ [])) c
+  pub walk-snoc : {P : ℕ → Type 0} {a b c r : ℕ} {rs ns : List ℕ} → Walk u v P a rs ns b → P r → Ends u v r b c
+      → Walk u v P a (rs ++ (r ∷ [])) (ns ++ (c ∷ [])) c
   walk-snoc stop h e = go h e stop
   walk-snoc (go h′ e′ w) h e = go h′ e′ (walk-snoc w h e)

@@ -42,7 +42,10 @@ in-either {x} (y ∷ l) {m} (past h) = more (in-either l h)
 
 pub distinct-join : (l m : List ℕ) → Distinct l → Distinct m → ((x : ℕ) → In x l → In x m → ⊥) → Distinct (l ++ m)
 distinct-join [] m d e n = e
-distinct-join (x ∷ l) m d e n = (λ h. ⊎-elim (d .0) (n x (at refl)) (in-either l h), distinct-join l m (d .1) e (λ y a b. n y (past a) b))
+distinct-join (x ∷ l) m d e n = (
+  λ h. ⊎-elim (d .0) (n x (at refl)) (in-either l h),
+  distinct-join l m (d .1) e (λ y a b. n y (past a) b),
+)
 
 pub distinct-snoc : (l : List ℕ) (c : ℕ) → Distinct l → ¬ In c l → Distinct (l ++ (c ∷ []))
 distinct-snoc l c d n = distinct-join l (c ∷ []) d (not-nil, tt) last

@@ -20,12 +20,14 @@ pub record Inner (us vs : ℕ → ℕ) (rows : ℕ) (head p y m : ℕ) (parent h
   pub queue : Queue us vs rows m parent half order place
   pub in-queue : head < m
   pub here : at order head ≡ p
-  pub latest : (i : ℕ) → 0 < i → i < m → (High parent order place i ≤ head) × (High parent order place i ≡ head → y ≤ at half (at order i))
+  pub latest : (i : ℕ) → 0 < i → i < m
+      → (High parent order place i ≤ head) × (High parent order place i ≡ head → y ≤ at half (at order i))
   pub done : (i h : ℕ) → i < head → h < 2 * rows → from us vs h ≡ at order i → at parent (from vs us h) ≢ 4096
   pub doing : (h : ℕ) → y ≤ h → h < 2 * rows → from us vs h ≡ p → at parent (from vs us h) ≢ 4096
 
 module _ (us vs : ℕ → ℕ) (rows : ℕ) (parent half order place : List ℕ) (head m : ℕ) where
-  pub inner-start : (p : ℕ) → p ≡ at order head → head < m → Outer us vs rows head m parent half order place → Inner us vs rows head p (2 * rows) m parent half order place
+  pub inner-start : (p : ℕ) → p ≡ at order head → head < m → Outer us vs rows head m parent half order place
+      → Inner us vs rows head p (2 * rows) m parent half order place
   inner-start p e b o = record {
     queue = o .queue;
     in-queue = b;
@@ -54,7 +56,8 @@ module _ (us vs : ℕ → ℕ) (rows : ℕ) (parent half order place : List ℕ)
         pick h b k q (yes t) = s .doing h t k q
         pick h b k q (no n) = absurd (l .none h b (omega arith) q)
 
-    pub inner-keep : (h : ℕ) → y ≡ h + 1 → at parent (from vs us h) ≢ 4096 → Inner us vs rows head p h m parent half order place
+    pub inner-keep : (h : ℕ) → y ≡ h + 1 → at parent (from vs us h) ≢ 4096
+        → Inner us vs rows head p h m parent half order place
     inner-keep h e n = record {
       queue = s .queue;
       in-queue = s .in-queue;
@@ -76,11 +79,13 @@ module _ (us vs : ℕ → ℕ) (rows : ℕ) (parent half order place : List ℕ)
       done = λ i h b k q. pick i h b k q (ℕ-discrete i head);
     }
       where
-        pick : (i h : ℕ) → i < head + 1 → h < 2 * rows → from us vs h ≡ at order i → Dec (i ≡ head) → at parent (from vs us h) ≢ 4096
+        pick : (i h : ℕ) → i < head + 1 → h < 2 * rows → from us vs h ≡ at order i → Dec (i ≡ head)
+            → at parent (from vs us h) ≢ 4096
         pick i h b k q (yes f) = s .doing h (omega arith) k (q ∙ rw f (s .here))
         pick i h b k q (no f) = s .done i h (omega arith) k q
 
-    module _ (h c : ℕ) (e : y ≡ h + 1) (b : h < 2 * rows) (fp : from us vs h ≡ p) (fc : c ≡ from vs us h) (cb : c < 4096) (new : at parent c ≡ 4096) where
+    module _ (h c : ℕ) (e : y ≡ h + 1) (b : h < 2 * rows) (fp : from us vs h ≡ p) (fc : c ≡ from vs us h)
+        (cb : c < 4096) (new : at parent c ≡ 4096) where
       abbrev Par : List ℕ
       Par = set parent c p
 
@@ -158,25 +163,32 @@ module _ (us vs : ℕ → ℕ) (rows : ℕ) (parent half order place : List ℕ)
           rw (par-old i l) (lo _ (λ q. ne (High parent order place i) (omega (arith, t .0)) (t .1 ∙ q)))
 
       high-new : High Par Ord Pla m ≡ head
-      high-new = rw (par-new, lo p (λ q. ne head (s .in-queue) (s .here ∙ q)), sym (s .here)) (Q .back head (s .in-queue))
+      high-new =
+          rw (par-new, lo p (λ q. ne head (s .in-queue) (s .here ∙ q)), sym (s .here)) (Q .back head (s .in-queue))
 
       pub queue-push : Queue us vs rows (m + 1) Par Hal Ord Pla
-      queue-push = record {
-        long = (length-set parent c p ∙ Q .long .0, length-set half c h ∙ Q .long .1, length-set order m c ∙ Q .long .2, length-set place c m ∙ Q .long .3);
-        free = (fewer .0, omega (arith, Q .free .1, fewer .1), λ v l q. pick-free v l q (ℕ-discrete v c));
-        some = omega arith;
-        root = oo 0 (Q .some) ∙ Q .root;
-        top = (par0 ∙ Q .top .0, hal0 ∙ Q .top .1);
-        within = λ i l. pick-within i l (ℕ-discrete i m);
-        reached = λ i l. pick-reached i l (ℕ-discrete i m);
-        placed = λ v l n. pick-placed v l n (ℕ-discrete v c);
-        back = λ i l. pick-back i l (ℕ-discrete i m);
-        child = λ i z l. pick-child i z l (ℕ-discrete i m);
-        above = λ i z l. pick-above i z l (ℕ-discrete i m);
-        falls = λ i j z l k. pick-falls i j z l k (ℕ-discrete j m);
-        blank = λ v l q. pick-blank v l q (ℕ-discrete v c);
-        rest = λ i l k. getD-set-other order m i c 0 (omega arith) ∙ Q .rest i (omega arith) k;
-      }
+      queue-push =
+          record {
+            long = (
+              length-set parent c p ∙ Q .long .0,
+              length-set half c h ∙ Q .long .1,
+              length-set order m c ∙ Q .long .2,
+              length-set place c m ∙ Q .long .3,
+            );
+            free = (fewer .0, omega (arith, Q .free .1, fewer .1), λ v l q. pick-free v l q (ℕ-discrete v c));
+            some = omega arith;
+            root = oo 0 (Q .some) ∙ Q .root;
+            top = (par0 ∙ Q .top .0, hal0 ∙ Q .top .1);
+            within = λ i l. pick-within i l (ℕ-discrete i m);
+            reached = λ i l. pick-reached i l (ℕ-discrete i m);
+            placed = λ v l n. pick-placed v l n (ℕ-discrete v c);
+            back = λ i l. pick-back i l (ℕ-discrete i m);
+            child = λ i z l. pick-child i z l (ℕ-discrete i m);
+            above = λ i z l. pick-above i z l (ℕ-discrete i m);
+            falls = λ i j z l k. pick-falls i j z l k (ℕ-discrete j m);
+            blank = λ v l q. pick-blank v l q (ℕ-discrete v c);
+            rest = λ i l k. getD-set-other order m i c 0 (omega arith) ∙ Q .rest i (omega arith) k;
+          }
         where
           c≢0 : 0 ≢ c
           c≢0 q = omega (arith, Q .top .0, new, ap (at parent) q)
@@ -199,29 +211,41 @@ module _ (us vs : ℕ → ℕ) (rows : ℕ) (parent half order place : List ℕ)
           pick-reached i l (yes f) = rw (f, par-new) pb
           pick-reached i l (no f) = let k : i < m = omega arith in rw (par-old i k) (Q .reached i k)
 
-          pick-placed : (v : ℕ) → v < 4096 → at Par v ≢ 4096 → Dec (v ≡ c) → (at Pla v < m + 1) × (at Ord (at Pla v) ≡ v)
+          pick-placed : (v : ℕ) → v < 4096 → at Par v ≢ 4096 → Dec (v ≡ c)
+              → (at Pla v < m + 1) × (at Ord (at Pla v) ≡ v)
           pick-placed v l n (yes f) = rw (f, ln) (omega arith, on)
-          pick-placed v l n (no f) = let t = Q .placed v l (rw (po v f) at n) in rw (lo v f) (omega (arith, t .0), oo (at place v) (t .0) ∙ t .1)
+          pick-placed v l n (no f) =
+              let t = Q .placed v l (rw (po v f) at n) in
+              rw (lo v f) (omega (arith, t .0), oo (at place v) (t .0) ∙ t .1)
 
           pick-back : (i : ℕ) → i < m + 1 → Dec (i ≡ m) → at Pla (at Ord i) ≡ i
           pick-back i l (yes f) = rw (f, on) ln
           pick-back i l (no f) = let k : i < m = omega arith in rw (oo i k) (lo _ (ne i k) ∙ Q .back i k)
 
           pick-child : (i : ℕ) → 0 < i → i < m + 1 → Dec (i ≡ m) → Reached us vs rows Par Hal (at Ord i)
-          pick-child i z l (yes f) = rw (f, on) (record { fits = rw hn b; leaves = rw (hn, pn) fp; leads = rw hn (sym fc) })
+          pick-child i z l (yes f) =
+              rw (f, on) (record { fits = rw hn b; leaves = rw (hn, pn) fp; leads = rw hn (sym fc) })
           pick-child i z l (no f) =
               let k : i < m = omega arith in
               let t = Q .child i z k in
-              rw (oo i k) (record { fits = rw (ho _ (ne i k)) (t .fits); leaves = rw (ho _ (ne i k), po _ (ne i k)) (t .leaves); leads = rw (ho _ (ne i k)) (t .leads) })
+              rw (oo i k)
+              (record {
+                fits = rw (ho _ (ne i k)) (t .fits);
+                leaves = rw (ho _ (ne i k), po _ (ne i k)) (t .leaves);
+                leads = rw (ho _ (ne i k)) (t .leads);
+              })
 
-          pick-above : (i : ℕ) → 0 < i → i < m + 1 → Dec (i ≡ m) → (High Par Ord Pla i < i) × (at Ord (High Par Ord Pla i) ≡ at Par (at Ord i))
+          pick-above : (i : ℕ) → 0 < i → i < m + 1 → Dec (i ≡ m)
+              → (High Par Ord Pla i < i) × (at Ord (High Par Ord Pla i) ≡ at Par (at Ord i))
           pick-above i z l (yes f) = rw (f, high-new, par-new) (s .in-queue, oo head (s .in-queue) ∙ s .here)
           pick-above i z l (no f) =
               let k : i < m = omega arith in
               let t = Q .above i z k in
               rw (high-old i z k, par-old i k) (t .0, oo _ (omega (arith, t .0)) ∙ t .1)
 
-          pick-falls : (i j : ℕ) → 0 < i → i < j → j < m + 1 → Dec (j ≡ m) → (High Par Ord Pla i ≤ High Par Ord Pla j) × (High Par Ord Pla i ≡ High Par Ord Pla j → at Hal (at Ord j) < at Hal (at Ord i))
+          pick-falls : (i j : ℕ) → 0 < i → i < j → j < m + 1 → Dec (j ≡ m)
+              → (High Par Ord Pla i ≤ High Par Ord Pla j)
+              × (High Par Ord Pla i ≡ High Par Ord Pla j → at Hal (at Ord j) < at Hal (at Ord i))
           pick-falls i j z l k (yes f) =
               let li : i < m = omega arith in
               let w = s .latest i z li in
@@ -245,7 +269,8 @@ module _ (us vs : ℕ → ℕ) (rows : ℕ) (parent half order place : List ℕ)
         doing = λ g l k q. pick-doing g l k q (ℕ-discrete g h);
       }
         where
-          pick-latest : (i : ℕ) → 0 < i → i < m + 1 → Dec (i ≡ m) → (High Par Ord Pla i ≤ head) × (High Par Ord Pla i ≡ head → h ≤ at Hal (at Ord i))
+          pick-latest : (i : ℕ) → 0 < i → i < m + 1 → Dec (i ≡ m)
+              → (High Par Ord Pla i ≤ head) × (High Par Ord Pla i ≡ head → h ≤ at Hal (at Ord i))
           pick-latest i z l (yes f) = rw (f, high-new, hal-new) (omega arith, λ d. omega arith)
           pick-latest i z l (no f) =
               let li : i < m = omega arith in
@@ -257,28 +282,35 @@ module _ (us vs : ℕ → ℕ) (rows : ℕ) (parent half order place : List ℕ)
           pick-doing g l k q (no f) = keeps _ (s .doing g (omega arith) k q)
 
 -- The beginning
-pub queue-one : (us vs : ℕ → ℕ) (rows : ℕ) (parent half order place : List ℕ) → Filled 4096 4096 parent → Filled 4096 0 half → Filled 4096 0 order → Filled 4096 0 place → Outer us vs rows 0 1 (set parent 0 0) half order place
-queue-one us vs rows parent half order place f g k o = record {
-  queue = record {
-    long = (length-set parent 0 0 ∙ f .long, g .long, k .long, o .long);
-    free = (others .0, omega (arith, others .1, upto-length 4096), λ v l q. others .2 v (upto-in 4096 v l) (λ e. omega (arith, p0, rw e at q)));
-    some = omega arith;
-    root = k .each 0 (omega arith);
-    top = (p0, g .each 0 (omega arith));
-    within = λ i l. omega (arith, k .each i (omega arith));
-    reached = λ i l. rw (k .each i (omega arith), p0) (omega arith);
-    placed = λ v l n. pick v l n (ℕ-discrete v 0);
-    back = λ i l. rw (k .each i (omega arith), o .each 0 (omega arith)) (omega arith);
-    child = λ i z l. absurd (omega arith);
-    above = λ i z l. absurd (omega arith);
-    falls = λ i j z l h. absurd (omega arith);
-    blank = λ v l q. (g .each v l, o .each v l);
-    rest = λ i l h. k .each i h;
-  };
-  in-queue = omega arith;
-  latest = λ i z l. absurd (omega arith);
-  done = λ i h l b q. absurd (omega arith);
-}
+pub queue-one : (us vs : ℕ → ℕ) (rows : ℕ) (parent half order place : List ℕ) → Filled 4096 4096 parent
+    → Filled 4096 0 half → Filled 4096 0 order → Filled 4096 0 place
+    → Outer us vs rows 0 1 (set parent 0 0) half order place
+queue-one us vs rows parent half order place f g k o =
+    record {
+      queue = record {
+        long = (length-set parent 0 0 ∙ f .long, g .long, k .long, o .long);
+        free = (
+          others .0,
+          omega (arith, others .1, upto-length 4096),
+          λ v l q. others .2 v (upto-in 4096 v l) (λ e. omega (arith, p0, rw e at q)),
+        );
+        some = omega arith;
+        root = k .each 0 (omega arith);
+        top = (p0, g .each 0 (omega arith));
+        within = λ i l. omega (arith, k .each i (omega arith));
+        reached = λ i l. rw (k .each i (omega arith), p0) (omega arith);
+        placed = λ v l n. pick v l n (ℕ-discrete v 0);
+        back = λ i l. rw (k .each i (omega arith), o .each 0 (omega arith)) (omega arith);
+        child = λ i z l. absurd (omega arith);
+        above = λ i z l. absurd (omega arith);
+        falls = λ i j z l h. absurd (omega arith);
+        blank = λ v l q. (g .each v l, o .each v l);
+        rest = λ i l h. k .each i h;
+      };
+      in-queue = omega arith;
+      latest = λ i z l. absurd (omega arith);
+      done = λ i h l b q. absurd (omega arith);
+    }
   where
     p0 : at (set parent 0 0) 0 ≡ 0
     p0 = getD-set-same parent 0 0 0 (omega (arith, f .long))
@@ -286,12 +318,14 @@ queue-one us vs rows parent half order place f g k o = record {
     others : Without 0 (upto 4096)
     others = without 0 (upto 4096) (upto-in 4096 0 (omega arith))
 
-    pick : (v : ℕ) → v < 4096 → at (set parent 0 0) v ≢ 4096 → Dec (v ≡ 0) → (at place v < 1) × (at order (at place v) ≡ v)
+    pick : (v : ℕ) → v < 4096 → at (set parent 0 0) v ≢ 4096 → Dec (v ≡ 0)
+        → (at place v < 1) × (at order (at place v) ≡ v)
     pick v l n (yes e) = rw (e, o .each 0 (omega arith)) (omega arith, k .each 0 (omega arith))
     pick v l n (no m) = absurd (n (getD-set-other parent 0 v 0 0 m ∙ f .each v l))
 
 -- What the loop of `visit` keeps, at the half-branch x - 1
-pub record Going (us vs : ℕ → ℕ) (rows : ℕ) (first next : List ℕ) (head p x m : ℕ) (parent half order place : List ℕ) : Type 0 where
+pub record Going (us vs : ℕ → ℕ) (rows : ℕ) (first next : List ℕ) (head p x m : ℕ) (parent half order place : List ℕ) :
+    Type 0 where
   pub chains : Chained us vs rows (2 * rows) first next
   pub node : p < 4096
   pub low : x ≤ 2 * rows
@@ -299,11 +333,20 @@ pub record Going (us vs : ℕ → ℕ) (rows : ℕ) (first next : List ℕ) (hea
   pub inner : Inner us vs rows head p x m parent half order place
 
 module _ (us vs : ℕ → ℕ) (rows : ℕ) (first next : List ℕ) (head m : ℕ) (parent half order place : List ℕ) where
-  pub going-start : (p x : ℕ) → Chained us vs rows (2 * rows) first next → head < m → Outer us vs rows head m parent half order place → p ≡ at order head → x ≡ at first p → Going us vs rows first next head p x m parent half order place
+  pub going-start : (p x : ℕ) → Chained us vs rows (2 * rows) first next → head < m
+      → Outer us vs rows head m parent half order place → p ≡ at order head → x ≡ at first p
+      → Going us vs rows first next head p x m parent half order place
   going-start p x c b o e d =
       let pb : p < 4096 = rw e (o .queue .within head b) in
       let l : Last (from us vs) p (2 * rows) x = rw d (c .firsts p pb) in
-      record { chains = c; node = pb; low = l .below; hit = l .hit; inner = inner-skip us vs rows parent half order place head m p _ (inner-start us vs rows parent half order place head m p e b o) x l }
+      record {
+        chains = c;
+        node = pb;
+        low = l .below;
+        hit = l .hit;
+        inner = inner-skip us vs rows parent half order place head m p _
+            (inner-start us vs rows parent half order place head m p e b o) x l;
+      }
 
   module _ (p x : ℕ) (g : Going us vs rows first next head p x m parent half order place) (z : 0 < x) where
     same : x ≡ x - 1 + 1
@@ -318,15 +361,34 @@ module _ (us vs : ℕ → ℕ) (rows : ℕ) (first next : List ℕ) (head m : �
     pub leads-place : {c : ℕ} → RowsFit us vs rows 4096 → c ≡ from vs us (x - 1) → c < 4096
     leads-place f e = rw e (from-fits vs us (x - 1) (flip-fit f) fits)
 
-    pub going-keep : (c y : ℕ) → c ≡ from vs us (x - 1) → at parent c ≢ 4096 → y ≡ at next (x - 1) → Going us vs rows first next head p y m parent half order place
+    pub going-keep : (c y : ℕ) → c ≡ from vs us (x - 1) → at parent c ≢ 4096 → y ≡ at next (x - 1)
+        → Going us vs rows first next head p y m parent half order place
     going-keep c y e n d =
         let l = next-last y d in
-        record { chains = g .chains; node = g .node; low = omega (arith, l .below, g .low); hit = l .hit; inner = inner-skip us vs rows parent half order place head m p _ (inner-keep us vs rows parent half order place head m p x (g .inner) (x - 1) same (rw e at n)) y l }
+        record {
+          chains = g .chains;
+          node = g .node;
+          low = omega (arith, l .below, g .low);
+          hit = l .hit;
+          inner = inner-skip us vs rows parent half order place head m p _
+              (inner-keep us vs rows parent half order place head m p x (g .inner) (x - 1) same (rw e at n)) y l;
+        }
 
     pub going-room : (c : ℕ) → c ≡ from vs us (x - 1) → c < 4096 → at parent c ≡ 4096 → m < 4096
-    going-room c e b n = room us vs rows parent half order place head m p x (g .inner) (x - 1) c same fits (g .hit z) e b n
+    going-room c e b n =
+        room us vs rows parent half order place head m p x (g .inner) (x - 1) c same fits (g .hit z) e b n
 
-    pub going-push : (c y : ℕ) → c ≡ from vs us (x - 1) → c < 4096 → at parent c ≡ 4096 → y ≡ at next (x - 1) → Going us vs rows first next head p y (m + 1) (set parent c p) (set half c (x - 1)) (set order m c) (set place c m)
+    pub going-push : (c y : ℕ) → c ≡ from vs us (x - 1) → c < 4096 → at parent c ≡ 4096 → y ≡ at next (x - 1)
+        → Going us vs rows first next head p y (m + 1) (set parent c p) (set half c (x - 1)) (set order m c)
+        (set place c m)
     going-push c y e b n d =
         let l = next-last y d in
-        record { chains = g .chains; node = g .node; low = omega (arith, l .below, g .low); hit = l .hit; inner = inner-skip us vs rows _ _ _ _ head _ p _ (inner-push us vs rows parent half order place head m p x (g .inner) (x - 1) c same fits (g .hit z) e b n) y l }
+        record {
+          chains = g .chains;
+          node = g .node;
+          low = omega (arith, l .below, g .low);
+          hit = l .hit;
+          inner = inner-skip us vs rows _ _ _ _ head _ p _
+              (inner-push us vs rows parent half order place head m p x (g .inner) (x - 1) c same fits (g .hit z) e b n)
+              y l;
+        }

@@ -1,5 +1,5 @@
--- A ring is in the first k rows exactly if one of them has ends that earlier rows join. From a ring: drop its first row, and the bridge.
--- To a ring: a simple path between the ends, and the row.
+-- A ring is in the first k rows exactly if one of them has ends that earlier rows join. From a ring: drop its first
+-- row, and the bridge. To a ring: a simple path between the ends, and the row.
 use Prim.Native.Nat.{ℕ, _≤_, _<_}
 use mathlib.Core.Path.{refl, sym}
 use mathlib.Core.Logic.{inr, _≢_}
@@ -17,7 +17,8 @@ use Rattle.tree.proofs.OnePath.{avoid}
 use Rattle.tree.proofs.Erase.{simple}
 
 module _ (u v : ℕ → ℕ) where
-  fresh : {P : ℕ → Type 0} {r a b : ℕ} {rs ns : List ℕ} → Walk u v P a rs ns b → ¬ In r rs → Walk u v (But P r) a rs ns b
+  fresh : {P : ℕ → Type 0} {r a b : ℕ} {rs ns : List ℕ} → Walk u v P a rs ns b → ¬ In r rs
+      → Walk u v (But P r) a rs ns b
   fresh stop n = stop
   fresh (go h e w) n = go (h, λ q. n (at (sym q))) e (fresh w (λ m. n (past m)))
 
@@ -56,5 +57,9 @@ module _ (u v : ℕ → ℕ) where
         two = omega (arith, long (t .2) (n r l));
       }
 
-  pub forest-iff : {k : ℕ} → ((r : ℕ) → r < k → u r ≢ v r) → (Forest u v k → ¬ Ring u v k) × (¬ Ring u v k → Forest u v k)
-  forest-iff {k} n = (λ f o. let c : Closes u v k = ring-closes o in f (c .0) (c .1) (c .2), λ o r h w. o (closes-ring n (r, h, w)))
+  pub forest-iff : {k : ℕ} → ((r : ℕ) → r < k → u r ≢ v r)
+      → (Forest u v k → ¬ Ring u v k) × (¬ Ring u v k → Forest u v k)
+  forest-iff {k} n = (
+    λ f o. let c : Closes u v k = ring-closes o in f (c .0) (c .1) (c .2),
+    λ o r h w. o (closes-ring n (r, h, w)),
+  )

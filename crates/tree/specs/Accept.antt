@@ -1,4 +1,5 @@
--- Refusals 11 and 12, and how every operation but the row reader's begins: 1 to 12 in order. What acceptance gives: n and B.
+-- Refusals 11 and 12, and how every operation but the row reader's begins: 1 to 12 in order. What acceptance gives: n
+-- and B.
 use Prim.Native.Nat.{ℕ, _-_}
 use mathlib.Core.Path.{_≡_}
 use mathlib.Core.List.{List}

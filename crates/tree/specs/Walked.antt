@@ -1,4 +1,5 @@
--- What the walk from node 0 leaves in four arrays: for each node its parent, the half-branch by which it was reached and its place in the order; for each place the node.
+-- What the walk from node 0 leaves in four arrays: for each node its parent, the half-branch by which it was reached
+-- and its place in the order; for each place the node.
 use Prim.Native.Nat.{ℕ, _*_, _≤_, _<_}
 use mathlib.Core.Path.{_≡_}
 use mathlib.Core.List.{List}
@@ -19,9 +20,13 @@ High parent order place i = at place (at parent (at order i))
 
 -- along the order the places of the parents do not fall, and under one parent the half-branches fall
 abbrev pub Falls : ℕ → List ℕ → List ℕ → List ℕ → List ℕ → Type 0
-Falls m parent half order place = (i j : ℕ) → 0 < i → i < j → j < m → (High parent order place i ≤ High parent order place j) × (High parent order place i ≡ High parent order place j → at half (at order j) < at half (at order i))
+Falls m parent half order place =
+    (i j : ℕ) → 0 < i → i < j → j < m
+    → (High parent order place i ≤ High parent order place j)
+    × (High parent order place i ≡ High parent order place j → at half (at order j) < at half (at order i))
 
--- rows below `rows` join us r and vs r; m nodes are joined to node 0, each is in the order once, parents before children
+-- rows below `rows` join us r and vs r; m nodes are joined to node 0, each is in the order once, parents before
+-- children
 pub record Walked (us vs : ℕ → ℕ) (rows m : ℕ) (parent half order place : List ℕ) : Type 0 where
   pub long : (length parent ≡ 4096) × (length half ≡ 4096) × (length order ≡ 4096) × (length place ≡ 4096)
   pub some : (0 < m) × (m ≤ 4096)
@@ -32,7 +37,9 @@ pub record Walked (us vs : ℕ → ℕ) (rows m : ℕ) (parent half order place 
   pub joined : (i : ℕ) → i < m → Joined us vs (First rows) 0 (at order i)
   pub listed : (v : ℕ) → v < 4096 → Joined us vs (First rows) 0 v → (at place v < m) × (at order (at place v) ≡ v)
   pub child : (i : ℕ) → 0 < i → i < m → Reached us vs rows parent half (at order i)
-  pub above : (i : ℕ) → 0 < i → i < m → (High parent order place i < i) × (at order (High parent order place i) ≡ at parent (at order i))
+  pub above : (i : ℕ) → 0 < i → i < m
+      → (High parent order place i < i) × (at order (High parent order place i) ≡ at parent (at order i))
   pub falls : Falls m parent half order place
-  pub others : (v : ℕ) → v < 4096 → ¬ Joined us vs (First rows) 0 v → (at parent v ≡ 4096) × (at half v ≡ 0) × (at place v ≡ 0)
+  pub others : (v : ℕ) → v < 4096 → ¬ Joined us vs (First rows) 0 v
+      → (at parent v ≡ 4096) × (at half v ≡ 0) × (at place v ≡ 0)
   pub rest : (i : ℕ) → m ≤ i → i < 4096 → at order i ≡ 0

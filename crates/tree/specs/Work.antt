@@ -112,7 +112,8 @@ pub record Queue (us vs : ℕ → ℕ) (rows m : ℕ) (parent half order place :
   pub placed : (v : ℕ) → v < 4096 → at parent v ≢ 4096 → (at place v < m) × (at order (at place v) ≡ v)
   pub back : (i : ℕ) → i < m → at place (at order i) ≡ i
   pub child : (i : ℕ) → 0 < i → i < m → Reached us vs rows parent half (at order i)
-  pub above : (i : ℕ) → 0 < i → i < m → (High parent order place i < i) × (at order (High parent order place i) ≡ at parent (at order i))
+  pub above : (i : ℕ) → 0 < i → i < m
+      → (High parent order place i < i) × (at order (High parent order place i) ≡ at parent (at order i))
   pub falls : Falls m parent half order place
   pub blank : (v : ℕ) → v < 4096 → at parent v ≡ 4096 → (at half v ≡ 0) × (at place v ≡ 0)
   pub rest : (i : ℕ) → m ≤ i → i < 4096 → at order i ≡ 0
@@ -125,7 +126,8 @@ pub record Outer (us vs : ℕ → ℕ) (rows head m : ℕ) (parent half order pl
   pub done : (i h : ℕ) → i < head → h < 2 * rows → from us vs h ≡ at order i → at parent (from vs us h) ≢ 4096
 
 -- what a visit of the node at the place head asks
-pub record Visits (s : List ℕ) (rows : ℕ) (first next : List ℕ) (head tail : ℕ) (parent half order place : List ℕ) : Type 0 where
+pub record Visits (s : List ℕ) (rows : ℕ) (first next : List ℕ) (head tail : ℕ) (parent half order place : List ℕ) :
+    Type 0 where
   pub readable : Readable s rows
   pub chains : Chained (firstEnd s) (secondEnd s) rows (2 * rows) first next
   pub ahead : head < tail

@@ -49,8 +49,8 @@ fn rings(s: &[u8], nodes: u16, bound: u32) -> Acceptance
     Acceptance::Accepted { nodes, bound }
 }
 
-// The walk from the root of an accepted net: for each node its parent, the half-branch by which it was reached and its place in the order; for each place the node.
-// For the crates above, which ask for acceptance first.
+// The walk from the root of an accepted net: for each node its parent, the half-branch by which it was reached and its
+// place in the order; for each place the node. For the crates above, which ask for acceptance first.
 pub fn walk(
     s: &[u8],
     nodes: u16,
@@ -60,7 +60,8 @@ pub fn walk(
     place: &mut [u16; 4096],
 )
     requires { ⌜ Net (now s) nodes ⌝ }
-    ensures { λ _. ⌜ Walked (firstEnd (now (s .entry))) (secondEnd (now (s .entry))) (nodes - 1) nodes (now (parent .exit)) (now (half .exit)) (now (order .exit)) (now (place .exit)) ⌝ }
+    ensures { λ _. ⌜ Walked (firstEnd (now (s .entry))) (secondEnd (now (s .entry))) (nodes - 1) nodes
+        (now (parent .exit)) (now (half .exit)) (now (order .exit)) (now (place .exit)) ⌝ }
 {
     let rows = arrays::wide(nodes) - 1;
     reach::from_root(s, rows, parent, half, order, place);

@@ -1,4 +1,5 @@
-// The walk from node 0 by a queue, over chains of half-branches: 2r and 2r + 1 are row r, left by its first end and by its second.
+// The walk from node 0 by a queue, over chains of half-branches: 2r and 2r + 1 are row r, left by its first end and by
+// its second.
 ghost use mathlib.Core.Path.{_≡_};
 ghost use Prim.Native.Nat.{_+_, _*_, _/_, _<_};
 ghost use Rattle.table.specs.Row.{Stands};
@@ -31,10 +32,12 @@ fn leads(s: &[u8], h: usize) -> usize
     first_end(s, h / 2)
 }
 
-// For each node the chain of the half-branches that leave it, each by one more than its number, from the highest down to 0.
+// For each node the chain of the half-branches that leave it, each by one more than its number, from the highest down
+// to 0.
 fn chains(s: &[u8], rows: usize, first: &mut [u16; 4096], next: &mut [u16; 8192])
     requires { ⌜ Readable (now s) rows ⌝ }
-    ensures { λ _. ⌜ Chained (firstEnd (now (s .entry))) (secondEnd (now (s .entry))) rows (2 * rows) (now (first .exit)) (now (next .exit)) ⌝ }
+    ensures { λ _. ⌜ Chained (firstEnd (now (s .entry))) (secondEnd (now (s .entry))) rows (2 * rows)
+        (now (first .exit)) (now (next .exit)) ⌝ }
 {
     arrays::fill(first, 0);
     arrays::fill_wide(next, 0);
@@ -61,8 +64,10 @@ fn visit(
     head: usize,
     tail: usize,
 ) -> usize
-    requires { ⌜ Visits (now s) rows (now first) (now next) head tail (now parent) (now half) (now order) (now place) ⌝ }
-    ensures { λ r. ⌜ Outer (firstEnd (now (s .entry))) (secondEnd (now (s .entry))) rows (head + 1) r (now (parent .exit)) (now (half .exit)) (now (order .exit)) (now (place .exit)) ⌝ }
+    requires { ⌜ Visits (now s) rows (now first) (now next) head tail (now parent) (now half) (now order)
+        (now place) ⌝ }
+    ensures { λ r. ⌜ Outer (firstEnd (now (s .entry))) (secondEnd (now (s .entry))) rows (head + 1) r
+        (now (parent .exit)) (now (half .exit)) (now (order .exit)) (now (place .exit)) ⌝ }
 {
     let p = arrays::wide(order[head]);
     let mut m = tail;
@@ -93,8 +98,10 @@ fn reach(
     order: &mut [u16; 4096],
     place: &mut [u16; 4096],
 ) -> usize
-    requires { ⌜ Readable (now s) rows × Chained (firstEnd (now s)) (secondEnd (now s)) rows (2 * rows) (now first) (now next) ⌝ }
-    ensures { λ r. ⌜ Walked (firstEnd (now (s .entry))) (secondEnd (now (s .entry))) rows r (now (parent .exit)) (now (half .exit)) (now (order .exit)) (now (place .exit)) ⌝ }
+    requires { ⌜ Readable (now s) rows
+        × Chained (firstEnd (now s)) (secondEnd (now s)) rows (2 * rows) (now first) (now next) ⌝ }
+    ensures { λ r. ⌜ Walked (firstEnd (now (s .entry))) (secondEnd (now (s .entry))) rows r (now (parent .exit))
+        (now (half .exit)) (now (order .exit)) (now (place .exit)) ⌝ }
 {
     arrays::fill(parent, 4096);
     arrays::fill(half, 0);
@@ -120,7 +127,8 @@ pub(crate) fn from_root(
     place: &mut [u16; 4096],
 ) -> usize
     requires { ⌜ Readable (now s) rows ⌝ }
-    ensures { λ r. ⌜ Walked (firstEnd (now (s .entry))) (secondEnd (now (s .entry))) rows r (now (parent .exit)) (now (half .exit)) (now (order .exit)) (now (place .exit)) ⌝ }
+    ensures { λ r. ⌜ Walked (firstEnd (now (s .entry))) (secondEnd (now (s .entry))) rows r (now (parent .exit))
+        (now (half .exit)) (now (order .exit)) (now (place .exit)) ⌝ }
 {
     let mut first: [u16; 4096] = [0; 4096];
     let mut next: [u16; 8192] = [0; 8192];

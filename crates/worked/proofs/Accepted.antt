@@ -1,4 +1,5 @@
--- A table that passes these tests is accepted: good header, good rows, no ring, and every node joined to node 0. Then an operation's promise is what follows refusals 1 to 12.
+-- A table that passes these tests is accepted: good header, good rows, no ring, and every node joined to node 0. Then
+-- an operation's promise is what follows refusals 1 to 12.
 use Prim.Native.Nat.{ℕ, _-_, _*_, _<_}
 use mathlib.Core.Path.{_≡_, refl}
 use mathlib.Core.Bool.{Bool, not}
@@ -21,7 +22,9 @@ use Rattle.worked.proofs.Tests.{every, every-passed, below, below-all}
 
 module _ (s : List ℕ) where
   abbrev head-tests : List Bool
-  head-tests = leb 12 (length s) ∷ eqb (byteAt s 0) 82 ∷ eqb (byteAt s 1) 84 ∷ eqb (byteAt s 2) 78 ∷ eqb (versionOf s) 1 ∷ leb 1 (nodesOf s) ∷ leb (nodesOf s) 4096 ∷ eqb (byteAt s 7) 0 ∷ eqb (length s) (12 * nodesOf s) ∷ []
+  head-tests =
+      leb 12 (length s) ∷ eqb (byteAt s 0) 82 ∷ eqb (byteAt s 1) 84 ∷ eqb (byteAt s 2) 78 ∷ eqb (versionOf s) 1
+      ∷ leb 1 (nodesOf s) ∷ leb (nodesOf s) 4096 ∷ eqb (byteAt s 7) 0 ∷ eqb (length s) (12 * nodesOf s) ∷ []
 
   headed : T (every head-tests) → Headed s
   headed t =
@@ -37,19 +40,28 @@ module _ (s : List ℕ) where
       }
 
   abbrev row-tests : ℕ → List Bool
-  row-tests r = ltb (rowAt s r .a) (nodesOf s) ∷ ltb (rowAt s r .b) (nodesOf s) ∷ not (eqb (rowAt s r .a) (rowAt s r .b)) ∷ leb (rowAt s r .length) 1000000 ∷ leZ (negsuc 999999) (rowAt s r .weight) ∷ leZ (rowAt s r .weight) (pos 1000000) ∷ []
+  row-tests r =
+      ltb (rowAt s r .a) (nodesOf s) ∷ ltb (rowAt s r .b) (nodesOf s) ∷ not (eqb (rowAt s r .a) (rowAt s r .b))
+      ∷ leb (rowAt s r .length) 1000000 ∷ leZ (negsuc 999999) (rowAt s r .weight)
+      ∷ leZ (rowAt s r .weight) (pos 1000000) ∷ []
 
   row-good : (r : ℕ) → T (every (row-tests r)) → RowNumber (nodesOf s) (rowAt s r) 0
   row-good r t =
       let p = every-passed (row-tests r) t in
-      let apart : rowAt s r .a ≡ rowAt s r .b → ⊥ = λ e. T-not (eqb (rowAt s r .a) (rowAt s r .b)) (p .1 .1 .0) (rw e (eqb-refl (rowAt s r .b))) in
-      passed (ltb→lt _ _ (p .0), ltb→lt _ _ (p .1 .0)) (passed apart (passed (leb→le _ _ (p .1 .1 .1 .0)) (passed (leZ-yes (p .1 .1 .1 .1 .0), leZ-yes (p .1 .1 .1 .1 .1 .0)) refl)))
+      let apart : rowAt s r .a ≡ rowAt s r .b → ⊥ = λ e. T-not (eqb (rowAt s r .a) (rowAt s r .b)) (p .1 .1 .0)
+      (rw e (eqb-refl (rowAt s r .b))) in
+      passed (ltb→lt _ _ (p .0), ltb→lt _ _ (p .1 .0))
+      (passed apart
+      (passed (leb→le _ _ (p .1 .1 .1 .0)) (passed (leZ-yes (p .1 .1 .1 .1 .0), leZ-yes (p .1 .1 .1 .1 .1 .0)) refl)))
 
   abbrev joins : ℕ → Bool
-  joins x = eqb (label (firstEnd s) (secondEnd s) (nodesOf s - 1) 0) (label (firstEnd s) (secondEnd s) (nodesOf s - 1) x)
+  joins x =
+      eqb (label (firstEnd s) (secondEnd s) (nodesOf s - 1) 0) (label (firstEnd s) (secondEnd s) (nodesOf s - 1) x)
 
   abbrev tests : List Bool
-  tests = every head-tests ∷ below (λ r. every (row-tests r)) (nodesOf s - 1) ∷ grows (firstEnd s) (secondEnd s) (nodesOf s - 1) ∷ below joins (nodesOf s) ∷ []
+  tests =
+      every head-tests ∷ below (λ r. every (row-tests r)) (nodesOf s - 1)
+      ∷ grows (firstEnd s) (secondEnd s) (nodesOf s - 1) ∷ below joins (nodesOf s) ∷ []
 
   unfoldable pub accepted? : Bool
   accepted? = every tests
@@ -61,14 +73,21 @@ module _ (s : List ℕ) where
 
     pub whole : Whole s (nodesOf s)
     unfolding accepted?
-    whole x b = label-joined (firstEnd s) (secondEnd s) (nodesOf s - 1) 0 x (eqb→eq _ _ (below-all joins (nodesOf s) (every-passed tests t .1 .1 .1 .0) x b))
+    whole x b =
+        label-joined (firstEnd s) (secondEnd s) (nodesOf s - 1) 0 x
+        (eqb→eq _ _ (below-all joins (nodesOf s) (every-passed tests t .1 .1 .1 .0) x b))
 
     pub ends-fit : (r : ℕ) → r < nodesOf s - 1 → (firstEnd s r < nodesOf s) × (secondEnd s r < nodesOf s)
     unfolding accepted? firstEnd secondEnd
-    ends-fit r b = let p = every-passed (row-tests r) (below-all (λ r. every (row-tests r)) (nodesOf s - 1) (every-passed tests t .1 .0) r b) in (ltb→lt _ _ (p .0), ltb→lt _ _ (p .1 .0))
+    ends-fit r b =
+        let p = every-passed (row-tests r)
+        (below-all (λ r. every (row-tests r)) (nodesOf s - 1) (every-passed tests t .1 .0) r b) in
+        (ltb→lt _ _ (p .0), ltb→lt _ _ (p .1 .0))
 
     pub begins : {A : Type 0} (refuse : ℕ → ℕ → A) {rest : A → Type 0} {x : A} → rest x → Begins A refuse s rest x
     unfolding accepted?
     begins refuse r =
         let p = every-passed tests t in
-        past-header refuse {s = s} (headed (p .0)) (fine (λ i b. row-good i (below-all (λ r. every (row-tests r)) (nodesOf s - 1) (p .1 .0) i b)) (fine (λ i b. passed (forest i b) refl) (passed whole r)))
+        past-header refuse {s = s} (headed (p .0))
+        (fine (λ i b. row-good i (below-all (λ r. every (row-tests r)) (nodesOf s - 1) (p .1 .0) i b))
+        (fine (λ i b. passed (forest i b) refl) (passed whole r)))

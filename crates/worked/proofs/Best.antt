@@ -1,4 +1,5 @@
--- Heaviest: an outcome that passes the test is the one promised. A run is held against every pair within B; refusal 16 finds none.
+-- Heaviest: an outcome that passes the test is the one promised. A run is held against every pair within B; refusal 16
+-- finds none.
 use Prim.Native.Nat.{ℕ, _-_, _≤_}
 use mathlib.Core.Path.{_≡_}
 use mathlib.Core.Bool.{Bool, true, false, cond}
@@ -26,13 +27,18 @@ module _ (way : ℕ → ℕ → List ℕ) (s marks : List ℕ) (o : Outcome) whe
   run = entry (o .low) (o .high) (o .length) (o .weight)
 
   abbrev found-tests : List Bool
-  found-tests = eqb (o .row) 0 ∷ wanted? s marks way short any run ∷ all-pairs s marks way short any (at-least? run) ∷ []
+  found-tests =
+      eqb (o .row) 0 ∷ wanted? s marks way short any run ∷ all-pairs s marks way short any (at-least? run) ∷ []
 
   abbrev refused-tests : List Bool
-  refused-tests = eqb (o .number) 16 ∷ eqb (o .row) 0 ∷ eqb (o .low) 0 ∷ eqb (o .high) 0 ∷ eqb (o .length) 0 ∷ eqZ (o .weight) (pos 0) ∷ all-pairs s marks way short any (λ e. false) ∷ []
+  refused-tests =
+      eqb (o .number) 16 ∷ eqb (o .row) 0 ∷ eqb (o .low) 0 ∷ eqb (o .high) 0 ∷ eqb (o .length) 0
+      ∷ eqZ (o .weight) (pos 0) ∷ all-pairs s marks way short any (λ e. false) ∷ []
 
   abbrev tests : List Bool
-  tests = accepted? s ∷ eqb (length marks) (nodesOf s - 1) ∷ ways? s marks way ∷ cond (eqb (o .number) 0) (every found-tests) (every refused-tests) ∷ []
+  tests =
+      accepted? s ∷ eqb (length marks) (nodesOf s - 1) ∷ ways? s marks way
+      ∷ cond (eqb (o .number) 0) (every found-tests) (every refused-tests) ∷ []
 
   unfoldable pub heaviest? : Bool
   heaviest? = every tests
@@ -47,7 +53,10 @@ module _ (way : ℕ → ℕ → List ℕ) (s marks : List ℕ) (o : Outcome) whe
   unfolding heaviest?
   is-heaviest t = pick (eqb (o .number) 0) (λ e. eqb→eq _ _ e) (p .1 .1 .1 .0)
     where
-      p : T (accepted? s) × (T (eqb (length marks) (nodesOf s - 1)) × (T (ways? s marks way) × (T (cond (eqb (o .number) 0) (every found-tests) (every refused-tests)) × Unit {0})))
+      p : T (accepted? s)
+          × (T (eqb (length marks) (nodesOf s - 1))
+          × (T (ways? s marks way)
+          × (T (cond (eqb (o .number) 0) (every found-tests) (every refused-tests)) × Unit {0})))
       p = every-passed tests t
 
       m : length marks ≡ nodesOf s - 1
@@ -56,14 +65,33 @@ module _ (way : ℕ → ℕ → List ℕ) (s marks : List ℕ) (o : Outcome) whe
       turn : (x : Outcome) → o ≡ x → HeaviestOf s marks x → HeaviestOf s marks o
       turn x e h = rw e h
 
-      pick : (b : Bool) → (T b → o .number ≡ 0) → T (cond b (every found-tests) (every refused-tests)) → HeaviestOf s marks o
+      pick : (b : Bool) → (T b → o .number ≡ 0) → T (cond b (every found-tests) (every refused-tests))
+          → HeaviestOf s marks o
       pick true f t =
           let q = every-passed found-tests t in
           let z : o .number ≡ 0 = f tt in
           let y : o .row ≡ 0 = eqb→eq _ _ (q .0) in
           let r = to run (is-wanted s marks way short any (p .1 .1 .0) run (q .1 .0)) in
-          let is : o ≡ found run = λ i. record { number = z i; row = y i; low = o .low; high = o .high; length = o .length; weight = o .weight } in
-          begins s (p .0) refusal (passed m (passed (run, r) (record { run = run; heaviest = record { one = r; best = λ f h. is-at-least run f (all-wanted s marks way short any (p .0) (p .1 .1 .0) (at-least? run) (q .1 .1 .0) f (fro f h)) }; is = is })))
+          let is : o ≡ found run = λ i. record {
+            number = z i;
+            row = y i;
+            low = o .low;
+            high = o .high;
+            length = o .length;
+            weight = o .weight;
+          } in
+          begins s (p .0) refusal
+          (passed m
+          (passed (run, r)
+          (record {
+            run = run;
+            heaviest = record {
+              one = r;
+              best = λ f h. is-at-least run f
+                  (all-wanted s marks way short any (p .0) (p .1 .1 .0) (at-least? run) (q .1 .1 .0) f (fro f h));
+            };
+            is = is;
+          })))
       pick false f t =
           let q = every-passed refused-tests t in
           let n : o .number ≡ 16 = eqb→eq _ _ (q .0) in
@@ -72,5 +100,11 @@ module _ (way : ℕ → ℕ → List ℕ) (s marks : List ℕ) (o : Outcome) whe
           let b : o .high ≡ 0 = eqb→eq _ _ (q .1 .1 .1 .0) in
           let l : o .length ≡ 0 = eqb→eq _ _ (q .1 .1 .1 .1 .0) in
           let w : o .weight ≡ pos 0 = eqZ-is _ _ (q .1 .1 .1 .1 .1 .0) in
-          let is : o ≡ refusal 16 0 = λ i. record { number = n i; row = r i; low = a i; high = b i; length = l i; weight = w i } in
-          turn (refusal 16 0) is (begins s (p .0) refusal (passed m (refused (λ e. all-wanted s marks way short any (p .0) (p .1 .1 .0) (λ e. false) (q .1 .1 .1 .1 .1 .1 .0) (e .0) (fro (e .0) (e .1))))))
+          let is : o ≡ refusal 16 0 =
+          λ i. record { number = n i; row = r i; low = a i; high = b i; length = l i; weight = w i } in
+          turn (refusal 16 0) is
+          (begins s (p .0) refusal
+          (passed m
+          (refused
+          (λ e. all-wanted s marks way short any (p .0) (p .1 .1 .0) (λ e. false) (q .1 .1 .1 .1 .1 .1 .0) (e .0)
+          (fro (e .0) (e .1))))))

@@ -18,7 +18,21 @@ use Rattle.spines.specs.Parents.{Child}
 use Rattle.spines.proofs.Same.{same-leaf}
 use Rattle.spines.proofs.Net.{child-net, net-child}
 use Rattle.worked.specs.Case.{LeavesAre}
-use Rattle.worked.proofs.Tests.{either, is-false, left-or, right-or, every, every-passed, below, below-all, below-from, throughout, throughout-in, has, has-in}
+use Rattle.worked.proofs.Tests.{
+  either,
+  is-false,
+  left-or,
+  right-or,
+  every,
+  every-passed,
+  below,
+  below-all,
+  below-from,
+  throughout,
+  throughout-in,
+  has,
+  has-in,
+}
 use Rattle.worked.proofs.Accepted.{accepted?, begins}
 use Rattle.worked.proofs.Hung.{par, hung, hangs?, headAt, rooted, head-is}
 
@@ -30,7 +44,9 @@ module _ (up by : ℕ → ℕ) (s before : List ℕ) (o : Outcome) where
   written-tests = not (o .refused) ∷ eqb (o .number) 0 ∷ eqb (o .row) 0 ∷ []
 
   abbrev tests : List Bool
-  tests = accepted? s ∷ hangs? up by s ∷ eqb (length before) (nodesOf s) ∷ every written-tests ∷ eqb (length (o .list)) (nodesOf s) ∷ below right (nodesOf s) ∷ []
+  tests =
+      accepted? s ∷ hangs? up by s ∷ eqb (length before) (nodesOf s) ∷ every written-tests
+      ∷ eqb (length (o .list)) (nodesOf s) ∷ below right (nodesOf s) ∷ []
 
   unfoldable pub heads? : Bool
   heads? = every tests
@@ -48,10 +64,13 @@ module _ (up by : ℕ → ℕ) (s before : List ℕ) (o : Outcome) where
   is-heads t =
       let p = every-passed tests t in
       let q = p .1 .1 in
-      begins s (p .0) (refusal before) (passed (eqb→eq _ _ (q .0)) (record {
+      begins s (p .0) (refusal before)
+      (passed (eqb→eq _ _ (q .0))
+      (record {
         is = is-written (q .1 .0);
         long = eqb→eq _ _ (q .1 .1 .0);
-        each = λ v b. turn v (at (o .list) v) (eqb→eq _ _ (below-all right (nodesOf s) (q .1 .1 .1 .0) v b)) (head-is up by s (p .0) (p .1 .0) v b);
+        each = λ v b. turn v (at (o .list) v) (eqb→eq _ _ (below-all right (nodesOf s) (q .1 .1 .1 .0) v b))
+            (head-is up by s (p .0) (p .1 .0) v b);
       }))
     where
       turn : (v h : ℕ) → headAt up by s v ≡ h → HeadOf s (nodesOf s) (headAt up by s v) v → HeadOf s (nodesOf s) h v
@@ -68,7 +87,9 @@ module _ (up by : ℕ → ℕ) (s nodes : List ℕ) where
   listed x = has x nodes || not (childless x)
 
   abbrev leaf-tests : List Bool
-  leaf-tests = accepted? s ∷ hangs? up by s ∷ throughout (λ x. ltb x (nodesOf s)) nodes ∷ throughout childless nodes ∷ below listed (nodesOf s) ∷ []
+  leaf-tests =
+      accepted? s ∷ hangs? up by s ∷ throughout (λ x. ltb x (nodesOf s)) nodes ∷ throughout childless nodes
+      ∷ below listed (nodesOf s) ∷ []
 
   unfoldable pub leaves? : Bool
   leaves? = every leaf-tests
@@ -77,7 +98,12 @@ module _ (up by : ℕ → ℕ) (s nodes : List ℕ) where
   Leafy x = Leaf (Child (nodesOf s) (par up by s)) (nodesOf s) x
 
   leaf-of : (x : ℕ) → x < nodesOf s → T (childless x) → Leafy x
-  leaf-of x b t = record { fits = b; none = λ c k. pick c k (either (eqb c 0) (not (eqb (par up by s c) x)) (below-all (no-child x) (nodesOf s) t c (k .fits))) }
+  leaf-of x b t =
+      record {
+        fits = b;
+        none = λ c k. pick c k
+            (either (eqb c 0) (not (eqb (par up by s c) x)) (below-all (no-child x) (nodesOf s) t c (k .fits)));
+      }
     where
       pick : (c : ℕ) → Child (nodesOf s) (par up by s) x c → T (eqb c 0) ⊎ T (not (eqb (par up by s c) x)) → ⊥
       pick c k (inl e) = k .low (eqb→eq c 0 e)
@@ -88,7 +114,9 @@ module _ (up by : ℕ → ℕ) (s nodes : List ℕ) where
     where
       pick : (c : ℕ) → c < nodesOf s → Dec (c ≡ 0) → T (no-child x c)
       pick c b (yes e) = left-or (eqb c 0) (not (eqb (par up by s c) x)) (rw e (eqb-refl 0))
-      pick c b (no z) = right-or (eqb c 0) (not (eqb (par up by s c) x)) (not-T (eqb (par up by s c) x) (λ t. l .none c (record { fits = b; low = z; of = eqb→eq _ _ t })))
+      pick c b (no z) =
+          right-or (eqb c 0) (not (eqb (par up by s c) x))
+          (not-T (eqb (par up by s c) x) (λ t. l .none c (record { fits = b; low = z; of = eqb→eq _ _ t })))
 
   pub are-leaves : T leaves? → LeavesAre s nodes
   unfolding leaves?
@@ -98,14 +126,19 @@ module _ (up by : ℕ → ℕ) (s nodes : List ℕ) where
       record {
         only = λ x i.
             let b : x < nodesOf s = ltb→lt _ _ (throughout-in (λ x. ltb x (nodesOf s)) nodes (q .0) x i) in
-            same-leaf (to (p .0) (p .1 .0) b) (fro (p .0) (p .1 .0) b) x (leaf-of x b (throughout-in childless nodes (q .1 .0) x i));
-        all = λ x l. has-in x nodes (pick x (of-leaf x (same-leaf (fro (p .0) (p .1 .0) (l .fits)) (to (p .0) (p .1 .0) (l .fits)) x l)) (either (has x nodes) (not (childless x)) (below-all listed (nodesOf s) (q .1 .1 .0) x (l .fits))));
+            same-leaf (to (p .0) (p .1 .0) b) (fro (p .0) (p .1 .0) b) x
+            (leaf-of x b (throughout-in childless nodes (q .1 .0) x i));
+        all = λ x l. has-in x nodes
+            (pick x (of-leaf x (same-leaf (fro (p .0) (p .1 .0) (l .fits)) (to (p .0) (p .1 .0) (l .fits)) x l))
+            (either (has x nodes) (not (childless x)) (below-all listed (nodesOf s) (q .1 .1 .0) x (l .fits))));
       }
     where
-      to : T (accepted? s) → T (hangs? up by s) → {x : ℕ} → x < nodesOf s → (p c : ℕ) → Child (nodesOf s) (par up by s) p c → ChildOf (firstEnd s) (secondEnd s) (nodesOf s - 1) (nodesOf s) p c
+      to : T (accepted? s) → T (hangs? up by s) → {x : ℕ} → x < nodesOf s → (p c : ℕ)
+          → Child (nodesOf s) (par up by s) p c → ChildOf (firstEnd s) (secondEnd s) (nodesOf s - 1) (nodesOf s) p c
       to ok h b p c k = child-net (rooted up by s ok h) (hung up by s) (omega arith) p c k
 
-      fro : T (accepted? s) → T (hangs? up by s) → {x : ℕ} → x < nodesOf s → (p c : ℕ) → ChildOf (firstEnd s) (secondEnd s) (nodesOf s - 1) (nodesOf s) p c → Child (nodesOf s) (par up by s) p c
+      fro : T (accepted? s) → T (hangs? up by s) → {x : ℕ} → x < nodesOf s → (p c : ℕ)
+          → ChildOf (firstEnd s) (secondEnd s) (nodesOf s - 1) (nodesOf s) p c → Child (nodesOf s) (par up by s) p c
       fro ok h b p c k = net-child (rooted up by s ok h) (hung up by s) (omega arith) p c k
 
       pick : (x : ℕ) → T (childless x) → T (has x nodes) ⊎ T (not (childless x)) → T (has x nodes)

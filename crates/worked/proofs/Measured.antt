@@ -1,4 +1,5 @@
--- Pair: an outcome that passes the test is the one promised. The heads of the path's nodes, each once, are the spines that it touches.
+-- Pair: an outcome that passes the test is the one promised. The heads of the path's nodes, each once, are the spines
+-- that it touches.
 use Prim.Native.Nat.{ℕ, _-_, _<_}
 use mathlib.Core.Path.{_≡_, refl, sym}
 use mathlib.Core.Bool.{Bool, not, cond}
@@ -19,7 +20,18 @@ use Rattle.spines.specs.Heads.{HeadOf}
 use Rattle.spines.specs.Hops.{Touched}
 use Rattle.spines.proofs.Net.{net-head-only}
 use Rattle.answers.specs.Pair.{Outcome, refusal, PairOf}
-use Rattle.worked.proofs.Tests.{every, every-passed, throughout, throughout-in, has, has-in, no-repeat, no-repeat-distinct, eqZ, eqZ-is}
+use Rattle.worked.proofs.Tests.{
+  every,
+  every-passed,
+  throughout,
+  throughout-in,
+  has,
+  has-in,
+  no-repeat,
+  no-repeat-distinct,
+  eqZ,
+  eqZ-is,
+}
 use Rattle.worked.proofs.Accepted.{accepted?, forest, begins}
 use Rattle.worked.proofs.Ways.{met, path?, is-walk, is-path}
 use Rattle.worked.proofs.Hung.{hangs?, headAt, head-is}
@@ -45,16 +57,25 @@ module _ (up by : ℕ → ℕ) (s : List ℕ) where
 
   abbrev touch-tests : List ℕ → List Bool
   touch-tests ns =
-      throughout (λ x. ltb x (nodesOf s)) ns ∷ no-repeat (once (heads-of ns)) ∷ throughout (λ h. has h (heads-of ns)) (once (heads-of ns)) ∷ throughout (λ x. has (headAt up by s x) (once (heads-of ns))) ns ∷ []
+      throughout (λ x. ltb x (nodesOf s)) ns ∷ no-repeat (once (heads-of ns))
+      ∷ throughout (λ h. has h (heads-of ns)) (once (heads-of ns))
+      ∷ throughout (λ x. has (headAt up by s x) (once (heads-of ns))) ns ∷ []
 
-  touched : T (accepted? s) → T (hangs? up by s) → (ns : List ℕ) → T (every (touch-tests ns)) → Count (Touched (ChildOf (firstEnd s) (secondEnd s) (nodesOf s - 1) (nodesOf s)) (nodesOf s) ns) (length (once (heads-of ns)))
+  touched : T (accepted? s) → T (hangs? up by s) → (ns : List ℕ) → T (every (touch-tests ns))
+      → Count (Touched (ChildOf (firstEnd s) (secondEnd s) (nodesOf s - 1) (nodesOf s)) (nodesOf s) ns)
+      (length (once (heads-of ns)))
   touched ok g ns t =
       let p = every-passed (touch-tests ns) t in
       record {
         list = once (heads-of ns);
         once = no-repeat-distinct (once (heads-of ns)) (p .1 .0);
-        only = λ h i. by-head h (p .0) (head-in h ns (has-in h (heads-of ns) (throughout-in (λ h. has h (heads-of ns)) (once (heads-of ns)) (p .1 .1 .0) h i)));
-        all = λ h k. has-in h (once (heads-of ns)) (turn h (headAt up by s (k .node)) (net-head-only (forest s ok) (k .head) (head-is up by s ok g (k .node) (fits (p .0) (k .node) (k .on)))) (throughout-in (λ x. has (headAt up by s x) (once (heads-of ns))) ns (p .1 .1 .1 .0) (k .node) (k .on)));
+        only = λ h i. by-head h (p .0)
+            (head-in h ns
+            (has-in h (heads-of ns) (throughout-in (λ h. has h (heads-of ns)) (once (heads-of ns)) (p .1 .1 .0) h i)));
+        all = λ h k. has-in h (once (heads-of ns))
+            (turn h (headAt up by s (k .node))
+            (net-head-only (forest s ok) (k .head) (head-is up by s ok g (k .node) (fits (p .0) (k .node) (k .on))))
+            (throughout-in (λ x. has (headAt up by s x) (once (heads-of ns))) ns (p .1 .1 .1 .0) (k .node) (k .on)));
         long = refl;
       }
     where
@@ -64,10 +85,13 @@ module _ (up by : ℕ → ℕ) (s : List ℕ) where
       turn : (h g : ℕ) → h ≡ g → T (has g (once (heads-of ns))) → T (has h (once (heads-of ns)))
       turn h g e t = rw e t
 
-      by-head : (h : ℕ) → T (throughout (λ x. ltb x (nodesOf s)) ns) → HeadIn h ns → Touched (ChildOf (firstEnd s) (secondEnd s) (nodesOf s - 1) (nodesOf s)) (nodesOf s) ns h
-      by-head h b i = record { node = i .0; on = i .1; head = rename (i .2) (head-is up by s ok g (i .0) (fits b (i .0) (i .1))) }
+      by-head : (h : ℕ) → T (throughout (λ x. ltb x (nodesOf s)) ns) → HeadIn h ns
+          → Touched (ChildOf (firstEnd s) (secondEnd s) (nodesOf s - 1) (nodesOf s)) (nodesOf s) ns h
+      by-head h b i =
+          record { node = i .0; on = i .1; head = rename (i .2) (head-is up by s ok g (i .0) (fits b (i .0) (i .1))) }
         where
-          rename : headAt up by s (i .0) ≡ h → HeadOf s (nodesOf s) (headAt up by s (i .0)) (i .0) → HeadOf s (nodesOf s) h (i .0)
+          rename : headAt up by s (i .0) ≡ h → HeadOf s (nodesOf s) (headAt up by s (i .0)) (i .0)
+              → HeadOf s (nodesOf s) h (i .0)
           rename e k = rw (← e) k
 
 module _ (way : ℕ → ℕ → List ℕ) (up by : ℕ → ℕ) (s marks : List ℕ) (a b : ℕ) (o : Outcome) where
@@ -79,8 +103,10 @@ module _ (way : ℕ → ℕ → List ℕ) (up by : ℕ → ℕ) (s marks : List 
 
   abbrev tests : List Bool
   tests =
-      accepted? s ∷ hangs? up by s ∷ eqb (length marks) (nodesOf s - 1) ∷ ltb a (nodesOf s) ∷ ltb b (nodesOf s) ∷ not (eqb a b) ∷ path? s a rs b
-      ∷ eqb (o .number) 0 ∷ eqb (o .row) 0 ∷ eqb (Sum (lengthOf s) rs) (o .length) ∷ eqZ (Total (weightUnder s marks) rs) (o .weight) ∷ every (touch-tests up by s on) ∷ eqb (length (once (heads-of up by s on))) (o .hops) ∷ []
+      accepted? s ∷ hangs? up by s ∷ eqb (length marks) (nodesOf s - 1) ∷ ltb a (nodesOf s) ∷ ltb b (nodesOf s)
+      ∷ not (eqb a b) ∷ path? s a rs b ∷ eqb (o .number) 0 ∷ eqb (o .row) 0 ∷ eqb (Sum (lengthOf s) rs) (o .length)
+      ∷ eqZ (Total (weightUnder s marks) rs) (o .weight) ∷ every (touch-tests up by s on)
+      ∷ eqb (length (once (heads-of up by s on))) (o .hops) ∷ []
 
   unfoldable pub pair? : Bool
   pair? = every tests
@@ -95,13 +121,31 @@ module _ (way : ℕ → ℕ → List ℕ) (up by : ℕ → ℕ) (s marks : List 
       let k = is-walk s a rs b w in
       begins s (p .0) refusal
       (passed (eqb→eq _ _ (q .0))
-      (passed (record { first = ltb→lt _ _ (q .1 .0); second = ltb→lt _ _ (q .1 .1 .0); apart = λ e. T-not (eqb a b) (q .1 .1 .1 .0) (rw e (eqb-refl b)) })
+      (passed
+      (record {
+        first = ltb→lt _ _ (q .1 .0);
+        second = ltb→lt _ _ (q .1 .1 .0);
+        apart = λ e. T-not (eqb a b) (q .1 .1 .1 .0) (rw e (eqb-refl b));
+      })
       (record {
         number = eqb→eq _ _ (r .0);
         row = eqb→eq _ _ (r .1 .0);
-        path = record { rows = rs; path = is-path s a rs b w; length = eqb→eq _ _ (r .1 .1 .0); weight = eqZ-is _ _ (r .1 .1 .1 .0) };
-        hops = record { rows = rs; nodes = met s a rs; walk = k .0; once = k .1; touches = counted (eqb→eq _ _ (r .1 .1 .1 .1 .1 .0)) (touched up by s (p .0) (p .1 .0) on (r .1 .1 .1 .1 .0)) };
+        path = record {
+          rows = rs;
+          path = is-path s a rs b w;
+          length = eqb→eq _ _ (r .1 .1 .0);
+          weight = eqZ-is _ _ (r .1 .1 .1 .0);
+        };
+        hops = record {
+          rows = rs;
+          nodes = met s a rs;
+          walk = k .0;
+          once = k .1;
+          touches = counted (eqb→eq _ _ (r .1 .1 .1 .1 .1 .0)) (touched up by s (p .0) (p .1 .0) on (r .1 .1 .1 .1 .0));
+        };
       })))
     where
-      counted : {h g : ℕ} → h ≡ g → Count (Touched (ChildOf (firstEnd s) (secondEnd s) (nodesOf s - 1) (nodesOf s)) (nodesOf s) on) h → Count (Touched (ChildOf (firstEnd s) (secondEnd s) (nodesOf s - 1) (nodesOf s)) (nodesOf s) on) g
+      counted : {h g : ℕ} → h ≡ g
+          → Count (Touched (ChildOf (firstEnd s) (secondEnd s) (nodesOf s - 1) (nodesOf s)) (nodesOf s) on) h
+          → Count (Touched (ChildOf (firstEnd s) (secondEnd s) (nodesOf s - 1) (nodesOf s)) (nodesOf s) on) g
       counted e c = rw (← e) c

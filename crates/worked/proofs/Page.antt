@@ -1,4 +1,5 @@
--- The listing: an outcome that passes the test is the one promised. The rows that follow the start are gathered pair by pair; the list is then tested to rise, to hold only what qualifies, and to hold every pair that does.
+-- The listing: an outcome that passes the test is the one promised. The rows that follow the start are gathered pair by
+-- pair; the list is then tested to rise, to hold only what qualifies, and to hold every pair that does.
 use Prim.Native.Nat.{ℕ, zero, suc, _+_, _-_, _*_, _/_, _≤_}
 use mathlib.Core.Path.{refl}
 use mathlib.Core.Logic.{_⊎_, inl, inr}
@@ -19,7 +20,17 @@ use Rattle.answers.specs.Listing.{Outcome, refusal, ListingOf}
 use Rattle.worked.proofs.Tests.{either, is-false, every, every-passed, same, same-is}
 use Rattle.worked.proofs.Accepted.{accepted?, begins}
 use Rattle.worked.proofs.Pairs.{of, ways?, Wanted, wanted?, is-wanted, all-pairs, all-wanted}
-use Rattle.worked.proofs.Entries.{after?, is-after, after-test, each, each-in, has-entry, has-entry-in, rising?, is-rising}
+use Rattle.worked.proofs.Entries.{
+  after?,
+  is-after,
+  after-test,
+  each,
+  each-in,
+  has-entry,
+  has-entry-in,
+  rising?,
+  is-rising,
+}
 
 abbrev keep : Bool → Entry → List Entry
 keep true e = e ∷ []
@@ -32,7 +43,10 @@ module _ (way : ℕ → ℕ → List ℕ) (s marks : List ℕ) (floor : ℤ) (lo
   -- what follows the start, gathered
   unfoldable pub seconds : ℕ → ℕ → List Entry
   seconds a zero = []
-  seconds a (suc b) = seconds a b ++ keep (wanted? s marks way short (leZ floor) (of s marks way a b) && after? low high (of s marks way a b)) (of s marks way a b)
+  seconds a (suc b) =
+      seconds a b
+      ++ keep (wanted? s marks way short (leZ floor) (of s marks way a b) && after? low high (of s marks way a b))
+      (of s marks way a b)
 
   unfoldable pub firsts : ℕ → List Entry
   firsts zero = []
@@ -50,9 +64,11 @@ module _ (way : ℕ → ℕ → List ℕ) (s marks : List ℕ) (floor : ℤ) (lo
 
   abbrev tests : List Bool
   tests =
-      accepted? s ∷ eqb (length marks) (nodesOf s - 1) ∷ ways? s marks way ∷ leb 16 (length lent)
-      ∷ rising? gathered ∷ each (wanted? s marks way short (leZ floor)) gathered ∷ each (after? low high) gathered ∷ all-pairs s marks way short (leZ floor) listed
-      ∷ not (o .refused) ∷ eqb (o .number) 0 ∷ eqb (o .row) 0 ∷ eqb (o .written) (length given) ∷ eqb (length given + o .left) (length gathered) ∷ same (o .bytes) (rows given ++ drop (16 * o .written) lent) ∷ []
+      accepted? s ∷ eqb (length marks) (nodesOf s - 1) ∷ ways? s marks way ∷ leb 16 (length lent) ∷ rising? gathered
+      ∷ each (wanted? s marks way short (leZ floor)) gathered ∷ each (after? low high) gathered
+      ∷ all-pairs s marks way short (leZ floor) listed ∷ not (o .refused) ∷ eqb (o .number) 0 ∷ eqb (o .row) 0
+      ∷ eqb (o .written) (length given) ∷ eqb (length given + o .left) (length gathered)
+      ∷ same (o .bytes) (rows given ++ drop (16 * o .written) lent) ∷ []
 
   unfoldable pub listing? : Bool
   listing? = every tests
@@ -61,10 +77,18 @@ module _ (way : ℕ → ℕ → List ℕ) (s marks : List ℕ) (floor : ℤ) (lo
   Wants = Qualifies (PathOf s marks (nodesOf s)) (λ l. l ≤ boundOf s) floor (nodesOf s)
 
   to : (e : Entry) → Wanted s marks way short (leZ floor) e → Wants e
-  to e p = record { pair = p .pair; node = p .node; path = p .path; short = leb→le _ _ (p .short); heavy = leZ-yes (p .heavy) }
+  to e p =
+      record {
+        pair = p .pair;
+        node = p .node;
+        path = p .path;
+        short = leb→le _ _ (p .short);
+        heavy = leZ-yes (p .heavy);
+      }
 
   fro : (e : Entry) → Wants e → Wanted s marks way short (leZ floor) e
-  fro e p = record { pair = p .pair; node = p .node; path = p .path; short = le→leb _ _ (p .short); heavy = p .heavy .le }
+  fro e p =
+      record { pair = p .pair; node = p .node; path = p .path; short = le→leb _ _ (p .short); heavy = p .heavy .le }
 
   pub is-listing : T listing? → ListingOf s marks floor low high lent o
   unfolding listing?
@@ -73,13 +97,21 @@ module _ (way : ℕ → ℕ → List ℕ) (s marks : List ℕ) (floor : ℤ) (lo
       let q = p .1 .1 .1 .1 in
       let refused = q .1 .1 .1 .1 .0 in
       let r = q .1 .1 .1 .1 .1 in
-      begins s (p .0) (refusal lent) (passed (eqb→eq _ _ (p .1 .0)) (passed (leb→le _ _ (p .1 .1 .1 .0)) (record {
+      begins s (p .0) (refusal lent)
+      (passed (eqb→eq _ _ (p .1 .0))
+      (passed (leb→le _ _ (p .1 .1 .1 .0))
+      (record {
         taken = is-false (o .refused) refused;
         number = eqb→eq _ _ (r .0);
         row = eqb→eq _ _ (r .1 .0);
         page = record {
           some = given;
-          page = record { rows = gathered; all = all (p .0) (p .1 .1 .0) (q .0) (q .1 .0) (q .1 .1 .0) (q .1 .1 .1 .0); fit = refl; rest = eqb→eq _ _ (r .1 .1 .1 .0) };
+          page = record {
+            rows = gathered;
+            all = all (p .0) (p .1 .1 .0) (q .0) (q .1 .0) (q .1 .1 .0) (q .1 .1 .1 .0);
+            fit = refl;
+            rest = eqb→eq _ _ (r .1 .1 .1 .0);
+          };
           count = eqb→eq _ _ (r .1 .1 .0);
           bytes = same-is _ _ (r .1 .1 .1 .1 .0);
         };
@@ -92,9 +124,19 @@ module _ (way : ℕ → ℕ → List ℕ) (s marks : List ℕ) (floor : ℤ) (lo
           pick (inl n) = absurd (T-not (after? low high e) n (after-test low high e a))
           pick (inr h) = h
 
-      all : T (accepted? s) → T (ways? s marks way) → T (rising? gathered) → T (each (wanted? s marks way short (leZ floor)) gathered) → T (each (after? low high) gathered) → T (all-pairs s marks way short (leZ floor) listed) → Listing (Following Wants low high) gathered
-      all ok w a b c d = record {
-        rising = is-rising gathered a;
-        sound = λ e i. (to e (is-wanted s marks way short (leZ floor) w e (each-in (wanted? s marks way short (leZ floor)) gathered b e i)), is-after low high e (each-in (after? low high) gathered c e i));
-        complete = λ e f. has-entry-in gathered e (found e (f .1) (all-wanted s marks way short (leZ floor) ok w listed d e (fro e (f .0))));
-      }
+      all : T (accepted? s) → T (ways? s marks way) → T (rising? gathered)
+          → T (each (wanted? s marks way short (leZ floor)) gathered) → T (each (after? low high) gathered)
+          → T (all-pairs s marks way short (leZ floor) listed) → Listing (Following Wants low high) gathered
+      all ok w a b c d =
+          record {
+            rising = is-rising gathered a;
+            sound =
+                λ e i. (
+                  to e
+                      (is-wanted s marks way short (leZ floor) w e
+                      (each-in (wanted? s marks way short (leZ floor)) gathered b e i)),
+                  is-after low high e (each-in (after? low high) gathered c e i),
+                );
+            complete = λ e f. has-entry-in gathered e
+                (found e (f .1) (all-wanted s marks way short (leZ floor) ok w listed d e (fro e (f .0))));
+          }

@@ -28,8 +28,13 @@ same-length c = search needs
 
 returns-3 : tie.Need-returns-3
 returns-3 c =
-    let e = toZ-ofZ w64 (c .before .before .before .before .before .before .before .before .before .before .args .floor) (c .before .before .before .before .before .before .before .before .before .before .fits .floor) in
-    passed (omega (arith, c .before .before .before .before .before .before .wide .ensures)) (passed (omega arith) (record { taken = refl; number = refl; row = refl; page = rw e at (c .before .before .page .ensures) }))
+    let wide-ensures = c .before .before .before .before .before .before .wide .ensures in
+    let args = c .before .before .before .before .before .before .before .before .before .before .args in
+    let fits = c .before .before .before .before .before .before .before .before .before .before .fits in
+    let e = toZ-ofZ w64 (args .floor) (fits .floor) in
+    passed (omega (arith, wide-ensures))
+    (passed (omega arith)
+    (record { taken = refl; number = refl; row = refl; page = rw e at (c .before .before .page .ensures) }))
 
 pub go-on-spec : {M : Type 1} → statement M
 go-on-spec =

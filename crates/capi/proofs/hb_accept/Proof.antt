@@ -14,7 +14,9 @@ enum-known-o : tie.Need-enum-known-o
 enum-known-o c = search needs
 
 fill-requires : tie.Need-fill-requires
-fill-requires c κs = accept-low _ _ (rw (c .before .before .o .given .1) at (c .before .before .before .before .accept .ensures))
+fill-requires c κs =
+    let accept-ensures = c .before .before .before .before .accept .ensures in
+    accept-low _ _ (rw (c .before .before .o .given .1) at accept-ensures)
 
 enum-known-o-2 : tie.Need-enum-known-o-2
 enum-known-o-2 c = search needs
@@ -35,13 +37,27 @@ fill-requires-2 : tie.Need-fill-requires-2
 fill-requires-2 c κs = search needs
 
 returns : tie.Need-returns
-returns c = record { outcome = _; promise = rw (c .before .before .before .o .given .1) at (c .before .before .before .before .before .accept .ensures); shown = calls (c .fill .ensures .0) (c .fill .ensures .1) refl }
+returns c =
+    let o-given = c .before .before .before .o .given in
+    let accept-ensures = c .before .before .before .before .before .accept .ensures in
+    record {
+      outcome = _;
+      promise = rw (o-given .1) at accept-ensures;
+      shown = calls (c .fill .ensures .0) (c .fill .ensures .1) refl;
+    }
 
 returns-2 : tie.Need-returns-2
 returns-2 c =
-    let a = stored _ _ (c .before .before .before .signed .ensures) (omega arith) in
+    let signed-ensures = c .before .before .before .signed .ensures in
+    let o2-given = c .before .before .before .before .before .o2 .given in
+    let accept-ensures = c .before .before .before .before .before .before .before .accept .ensures in
+    let a = stored _ _ signed-ensures (omega arith) in
     let b = stored _ _ (c .before .before .signed2 .ensures) (omega arith) in
-    record { outcome = _; promise = rw (c .before .before .before .before .before .o2 .given .1) at (c .before .before .before .before .before .before .before .accept .ensures); shown = calls (c .fill2 .ensures .0) (rw (a, b) at (c .fill2 .ensures .1)) refl }
+    record {
+      outcome = _;
+      promise = rw (o2-given .1) at accept-ensures;
+      shown = calls (c .fill2 .ensures .0) (rw (a, b) at (c .fill2 .ensures .1)) refl;
+    }
 
 pub hb-accept-spec : {M : Type 1} → statement M
 hb-accept-spec =

@@ -13,7 +13,9 @@ enum-known-o : tie.Need-enum-known-o
 enum-known-o c = search needs
 
 fill-requires : tie.Need-fill-requires
-fill-requires c κs = heads-low _ _ _ (rw (c .before .before .o .given .1) at (c .before .before .before .before .before .before .heads .ensures))
+fill-requires c κs =
+    let heads-ensures = c .before .before .before .before .before .before .heads .ensures in
+    heads-low _ _ _ (rw (c .before .before .o .given .1) at heads-ensures)
 
 enum-told : tie.Need-enum-told
 enum-told c = search needs
@@ -25,14 +27,26 @@ same-length : tie.Need-same-length
 same-length c = search needs
 
 returns : tie.Need-returns
-returns c = record { outcome = _; promise = rw (c .before .before .before .o .given .1) at (c .before .before .before .before .before .before .before .heads .ensures); shown = calls (c .fill .ensures .0) (c .fill .ensures .1) refl }
+returns c =
+    let o-given = c .before .before .before .o .given in
+    let heads-ensures = c .before .before .before .before .before .before .before .heads .ensures in
+    record {
+      outcome = _;
+      promise = rw (o-given .1) at heads-ensures;
+      shown = calls (c .fill .ensures .0) (c .fill .ensures .1) refl;
+    }
 
 same-length-2 : tie.Need-same-length-2
 same-length-2 c = search needs
 
 returns-2 : tie.Need-returns-2
 returns-2 c =
-    record { outcome = _; promise = rw (c .before .before .enum-told .given .1) at (c .before .before .before .before .before .before .heads .ensures); shown = calls (c .fill2 .ensures .0) (c .fill2 .ensures .1) refl }
+    let heads-ensures = c .before .before .before .before .before .before .heads .ensures in
+    record {
+      outcome = _;
+      promise = rw (c .before .before .enum-told .given .1) at heads-ensures;
+      shown = calls (c .fill2 .ensures .0) (c .fill2 .ensures .1) refl;
+    }
 
 pub hb-heads-spec : {M : Type 1} → statement M
 hb-heads-spec =

@@ -16,7 +16,9 @@ enum-known-o : tie.Need-enum-known-o
 enum-known-o c = search needs
 
 fill-requires : tie.Need-fill-requires
-fill-requires c κs = pair-low _ _ _ _ _ (rw (c .before .before .o .given .1) at (c .before .before .before .before .pair .ensures))
+fill-requires c κs =
+    let pair-ensures = c .before .before .before .before .pair .ensures in
+    pair-low _ _ _ _ _ (rw (c .before .before .o .given .1) at pair-ensures)
 
 enum-known-o-2 : tie.Need-enum-known-o-2
 enum-known-o-2 c = search needs
@@ -37,14 +39,29 @@ fill-requires-2 : tie.Need-fill-requires-2
 fill-requires-2 c κs = search needs
 
 returns : tie.Need-returns
-returns c = record { outcome = _; promise = rw (c .before .before .before .o .given .1) at (c .before .before .before .before .before .pair .ensures); shown = calls (c .fill .ensures .0) (c .fill .ensures .1) refl }
+returns c =
+    let o-given = c .before .before .before .o .given in
+    let pair-ensures = c .before .before .before .before .before .pair .ensures in
+    record {
+      outcome = _;
+      promise = rw (o-given .1) at pair-ensures;
+      shown = calls (c .fill .ensures .0) (c .fill .ensures .1) refl;
+    }
 
 returns-2 : tie.Need-returns-2
 returns-2 c =
-    let l = stored _ _ (c .before .before .before .signed .ensures) (omega arith) in
+    let signed-ensures = c .before .before .before .signed .ensures in
+    let known-told2-given = c .before .before .before .before .known-told2 .given in
+    let o2-given = c .before .before .before .before .before .o2 .given in
+    let pair-ensures = c .before .before .before .before .before .before .before .pair .ensures in
+    let l = stored _ _ signed-ensures (omega arith) in
     let h = stored _ _ (c .before .before .signed2 .ensures) (omega arith) in
-    let w = toZ-ofZ w64 (c .before .before .before .before .before .o2 .given .0 .1 .0) (record { sfits = c .before .before .before .before .known-told2 .given .1 .0 .1 }) in
-    record { outcome = _; promise = rw (c .before .before .before .before .before .o2 .given .1) at (c .before .before .before .before .before .before .before .pair .ensures); shown = calls (c .fill2 .ensures .0) (rw (l, w, h) at (c .fill2 .ensures .1)) refl }
+    let w = toZ-ofZ w64 (o2-given .0 .1 .0) (record { sfits = known-told2-given .1 .0 .1 }) in
+    record {
+      outcome = _;
+      promise = rw (o2-given .1) at pair-ensures;
+      shown = calls (c .fill2 .ensures .0) (rw (l, w, h) at (c .fill2 .ensures .1)) refl;
+    }
 
 pub hb-pair-spec : {M : Type 1} → statement M
 hb-pair-spec =

@@ -1,4 +1,5 @@
--- `rings` meets its contract: a row found is the first closing one; none found, fewer than n nodes reached means that one is apart.
+-- `rings` meets its contract: a row found is the first closing one; none found, fewer than n nodes reached means that
+-- one is apart.
 use mathlib.Core.Path.{refl}
 use native.Mathlib.Omega.{arith}
 use Rattle.tree.proofs.Begins.{fitting-readable, rings-bad, rings-apart, rings-whole}
@@ -16,16 +17,30 @@ first-closing-requires : tie.Need-first-closing-requires
 first-closing-requires c κs = rw (c .wide .ensures .0) (fitting-readable (c .before .before .pre))
 
 returns : tie.Need-returns
-returns c = rings-bad _ _ _ (rw (c .before .before .wide .ensures .0) at (c .before .first-closing .ensures)) (omega (arith, c .before .before .wide .ensures .0))
+returns c =
+    let wide-ensures = c .before .before .wide .ensures in
+    rings-bad _ _ _ (rw (wide-ensures .0) at (c .before .first-closing .ensures)) (omega (arith, wide-ensures .0))
 
 reached-requires : tie.Need-reached-requires
-reached-requires c κs = rw (c .before .before .wide .ensures .0) (fitting-readable (c .before .before .before .before .pre))
+reached-requires c κs =
+    let pre = c .before .before .before .before .pre in
+    rw (c .before .before .wide .ensures .0) (fitting-readable pre)
 
 returns-2 : tie.Need-returns-2
-returns-2 c = let e = c .before .before .before .before .wide .ensures .0 in rings-apart _ _ _ (rw e at (c .before .before .before .first-closing .ensures)) (omega (arith, e)) (c .before .before .before .before .before .before .pre) _ (rw e at (c .before .reached .ensures)) (omega (arith, e))
+returns-2 c =
+    let first-closing-ensures = c .before .before .before .first-closing .ensures in
+    let pre = c .before .before .before .before .before .before .pre in
+    let e = c .before .before .before .before .wide .ensures .0 in
+    rings-apart _ _ _ (rw e at first-closing-ensures) (omega (arith, e)) pre _ (rw e at (c .before .reached .ensures))
+    (omega (arith, e))
 
 returns-3 : tie.Need-returns-3
-returns-3 c = let e = c .before .before .before .before .wide .ensures .0 in rings-whole _ _ _ (rw e at (c .before .before .before .first-closing .ensures)) (omega (arith, e)) (c .before .before .before .before .before .before .pre) _ (rw e at (c .before .reached .ensures)) (omega (arith, e)) refl
+returns-3 c =
+    let first-closing-ensures = c .before .before .before .first-closing .ensures in
+    let pre = c .before .before .before .before .before .before .pre in
+    let e = c .before .before .before .before .wide .ensures .0 in
+    rings-whole _ _ _ (rw e at first-closing-ensures) (omega (arith, e)) pre _ (rw e at (c .before .reached .ensures))
+    (omega (arith, e)) refl
 
 pub rings-spec : {M : Type 1} → statement M
 rings-spec =

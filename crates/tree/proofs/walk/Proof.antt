@@ -12,10 +12,17 @@ sub-rows : tie.Need-sub-rows
 sub-rows c = search needs
 
 from-root-requires : tie.Need-from-root-requires
-from-root-requires c κs = rw (c .before .before .before .before .wide .ensures .0) (fitting-readable (net-fitting (c .before .before .before .before .before .before .pre)))
+from-root-requires c κs =
+    let wide-ensures = c .before .before .before .before .wide .ensures in
+    let pre = c .before .before .before .before .before .before .pre in
+    rw (wide-ensures .0) (fitting-readable (net-fitting pre))
 
 returns : tie.Need-returns
-returns c = let w = rw (c .before .before .before .before .before .wide .ensures .0) at (c .from-root .ensures) in rw (walk-all (c .before .before .before .before .before .before .before .pre) w) at w
+returns c =
+    let wide-ensures = c .before .before .before .before .before .wide .ensures in
+    let pre = c .before .before .before .before .before .before .before .pre in
+    let w = rw (wide-ensures .0) at (c .from-root .ensures) in
+    rw (walk-all pre w) at w
 
 pub walk-spec : {M : Type 1} → statement M
 walk-spec = tie.close (tie.spec wide-requires sub-rows from-root-requires returns)

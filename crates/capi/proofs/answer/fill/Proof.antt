@@ -16,8 +16,17 @@ signed-requires-2 c κs = search needs
 
 returns : tie.Need-returns
 returns c =
-    let a = c .before .before .before .fits in
-    (refl, rw (stored _ _ (c .before .before .signed .ensures) (omega arith), stored _ _ (c .before .signed2 .ensures) (omega arith), toZ-ofZ w64 _ (a .f0), toZ-ofZ w64 _ (a .f1), toZ-ofZ w64 _ (a .f2), toZ-ofZ w64 _ (a .f3)))
+    let a = c .before .before .before .fits in (
+      refl,
+      rw (
+        stored _ _ (c .before .before .signed .ensures) (omega arith),
+        stored _ _ (c .before .signed2 .ensures) (omega arith),
+        toZ-ofZ w64 _ (a .f0),
+        toZ-ofZ w64 _ (a .f1),
+        toZ-ofZ w64 _ (a .f2),
+        toZ-ofZ w64 _ (a .f3),
+      ),
+    )
 
 pub fill-spec : {M : Type 1} → statement M
 fill-spec = tie.close (tie.spec signed-requires signed-requires-2 returns)

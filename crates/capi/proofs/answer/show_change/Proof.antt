@@ -28,7 +28,11 @@ returns : tie.Need-returns
 returns c = λ l. rw (c .before .before .before .o .given .1) (calls (c .fill .ensures .0) (c .fill .ensures .1) refl)
 
 returns-2 : tie.Need-returns-2
-returns-2 c = λ l. rw (c .before .before .before .before .o2 .given .1) (calls (c .fill2 .ensures .0) (rw (stored _ _ (c .before .before .signed .ensures) (omega arith)) at (c .fill2 .ensures .1)) refl)
+returns-2 c =
+    let o2-given = c .before .before .before .before .o2 .given in
+    λ l. rw (o2-given .1)
+    (calls (c .fill2 .ensures .0)
+    (rw (stored _ _ (c .before .before .signed .ensures) (omega arith)) at (c .fill2 .ensures .1)) refl)
 
 pub show-change-spec : {M : Type 1} → statement M
 show-change-spec =

@@ -1,4 +1,5 @@
--- `reach` meets its contract: the places before head are done, and where head meets tail all nodes joined to node 0 are in the order.
+-- `reach` meets its contract: the places before head are done, and where head meets tail all nodes joined to node 0 are
+-- in the order.
 use Prim.Native.Nat.{_*_, _-_}
 use native.Mathlib.Omega.{arith}
 use Rattle.tree.specs.Net.{firstEnd, secondEnd}
@@ -10,7 +11,9 @@ use Rattle.tree.proofs.reach.reach.Tie as tie
 
 abbrev Inv-loop : tie.InvT-loop
 Inv-loop s rows first next parent₀ half₀ order₀ place₀ head₀ tail₀ parent half order place head tail =
-    Outer (firstEnd s) (secondEnd s) rows head tail parent half order place × Readable s rows × Chained (firstEnd s) (secondEnd s) rows (2 * rows) first next
+    Outer (firstEnd s) (secondEnd s) rows head tail parent half order place
+    × Readable s rows
+    × Chained (firstEnd s) (secondEnd s) rows (2 * rows) first next
 
 abbrev μ-loop : tie.MeasureT-loop
 μ-loop s rows first next parent₀ half₀ order₀ place₀ head₀ tail₀ parent half order place head tail = 4096 - head
@@ -31,10 +34,20 @@ element-write-parent : tie.Need-element-write-parent Inv-loop μ-loop
 element-write-parent c = omega arith
 
 loop-holds : tie.Need-loop-holds Inv-loop μ-loop
-loop-holds c = (queue-one _ _ _ _ _ _ _ (c .before .before .before .before .before .before .fill .ensures) (c .before .before .before .before .fill2 .ensures) (c .before .before .fill3 .ensures) (c .fill4 .ensures), c .before .before .before .before .before .before .before .before .before .pre .0, c .before .before .before .before .before .before .before .before .before .pre .1)
+loop-holds c =
+    let fill2-ensures = c .before .before .before .before .fill2 .ensures in
+    let fill-ensures = c .before .before .before .before .before .before .fill .ensures in
+    let pre = c .before .before .before .before .before .before .before .before .before .pre in (
+      queue-one _ _ _ _ _ _ _ fill-ensures fill2-ensures (c .before .before .fill3 .ensures) (c .fill4 .ensures),
+      pre .0,
+      pre .1,
+    )
 
 visit-requires : tie.Need-visit-requires Inv-loop μ-loop
-visit-requires c κs = let h = c .before .before .before .before .before .loop .inv in record { readable = h .1; chains = h .2; ahead = c .before .before .before .before .loop-test .taken; outer = h .0 }
+visit-requires c κs =
+    let loop-test-taken = c .before .before .before .before .loop-test .taken in
+    let h = c .before .before .before .before .before .loop .inv in
+    record { readable = h .1; chains = h .2; ahead = loop-test-taken; outer = h .0 }
 
 add-head : tie.Need-add-head Inv-loop μ-loop
 add-head c = omega arith

@@ -29,13 +29,20 @@ mul-wide-2 : tie.Need-mul-wide-2 Inv-loop μ-loop
 mul-wide-2 c = omega arith
 
 element-copy-out-wide-2 : tie.Need-element-copy-out-wide-2 Inv-loop μ-loop
-element-copy-out-wide-2 c = rw (c .wide .ensures .0) (c .before .before .before .pre .outer .queue .within _ (c .before .before .before .pre .ahead))
+element-copy-out-wide-2 c =
+    let pre = c .before .before .before .pre in
+    rw (c .wide .ensures .0) (pre .outer .queue .within _ (pre .ahead))
 
 wide-requires-2 : tie.Need-wide-requires-2 Inv-loop μ-loop
 wide-requires-2 c κs = search needs
 
 loop-holds : tie.Need-loop-holds Inv-loop μ-loop
-loop-holds c = let t = c .before .before .before .before .before .pre in (going-start _ _ _ _ _ _ _ _ _ _ _ _ _ (t .chains) (t .ahead) (t .outer) (c .before .before .wide .ensures .0) (c .wide2 .ensures .0), t .readable)
+loop-holds c =
+    let t = c .before .before .before .before .before .pre in (
+      going-start _ _ _ _ _ _ _ _ _ _ _ _ _ (t .chains) (t .ahead) (t .outer) (c .before .before .wide .ensures .0)
+          (c .wide2 .ensures .0),
+      t .readable,
+    )
 
 sub-h : tie.Need-sub-h Inv-loop μ-loop
 sub-h c = omega arith
@@ -44,46 +51,113 @@ leads-requires : tie.Need-leads-requires Inv-loop μ-loop
 leads-requires c κs = let g = c .before .loop .inv in g .1 .stands _ (omega (arith, g .0 .low))
 
 mul-if1 : tie.Need-mul-if1 Inv-loop μ-loop
-mul-if1 c = omega (arith, leads-place _ _ _ _ _ _ _ _ _ _ _ _ _ (c .before .before .loop .inv .0) (c .before .loop-test .taken) (c .before .before .loop .inv .1 .fit) (c .leads .ensures))
+mul-if1 c =
+    let loop-inv = c .before .before .loop .inv in
+    omega (
+      arith,
+      leads-place _ _ _ _ _ _ _ _ _ _ _ _ _ (loop-inv .0) (c .before .loop-test .taken) (loop-inv .1 .fit)
+          (c .leads .ensures),
+    )
 
 element-copy-out-if1 : tie.Need-element-copy-out-if1 Inv-loop μ-loop
-element-copy-out-if1 c = omega (arith, leads-place _ _ _ _ _ _ _ _ _ _ _ _ _ (c .before .before .loop .inv .0) (c .before .loop-test .taken) (c .before .before .loop .inv .1 .fit) (c .leads .ensures))
+element-copy-out-if1 c =
+    let loop-inv = c .before .before .loop .inv in
+    omega (
+      arith,
+      leads-place _ _ _ _ _ _ _ _ _ _ _ _ _ (loop-inv .0) (c .before .loop-test .taken) (loop-inv .1 .fit)
+          (c .leads .ensures),
+    )
 
 cast-parent : tie.Need-cast-parent Inv-loop μ-loop
 cast-parent c = omega arith
 
 mul-parent : tie.Need-mul-parent Inv-loop μ-loop
-mul-parent c = omega (arith, leads-place _ _ _ _ _ _ _ _ _ _ _ _ _ (c .before .before .before .before .loop .inv .0) (c .before .before .before .loop-test .taken) (c .before .before .before .before .loop .inv .1 .fit) (c .before .before .leads .ensures))
+mul-parent c =
+    let loop-test-taken = c .before .before .before .loop-test .taken in
+    let loop-inv = c .before .before .before .before .loop .inv in
+    omega (
+      arith,
+      leads-place _ _ _ _ _ _ _ _ _ _ _ _ _ (loop-inv .0) loop-test-taken (loop-inv .1 .fit)
+          (c .before .before .leads .ensures),
+    )
 
 element-write-parent : tie.Need-element-write-parent Inv-loop μ-loop
-element-write-parent c = omega (arith, leads-place _ _ _ _ _ _ _ _ _ _ _ _ _ (c .before .before .before .before .loop .inv .0) (c .before .before .before .loop-test .taken) (c .before .before .before .before .loop .inv .1 .fit) (c .before .before .leads .ensures))
+element-write-parent c =
+    let loop-test-taken = c .before .before .before .loop-test .taken in
+    let loop-inv = c .before .before .before .before .loop .inv in
+    omega (
+      arith,
+      leads-place _ _ _ _ _ _ _ _ _ _ _ _ _ (loop-inv .0) loop-test-taken (loop-inv .1 .fit)
+          (c .before .before .leads .ensures),
+    )
 
 cast-half : tie.Need-cast-half Inv-loop μ-loop
 cast-half c = omega arith
 
 mul-half : tie.Need-mul-half Inv-loop μ-loop
-mul-half c = omega (arith, leads-place _ _ _ _ _ _ _ _ _ _ _ _ _ (c .before .before .before .before .loop .inv .0) (c .before .before .before .loop-test .taken) (c .before .before .before .before .loop .inv .1 .fit) (c .before .before .leads .ensures))
+mul-half c =
+    let loop-test-taken = c .before .before .before .loop-test .taken in
+    let loop-inv = c .before .before .before .before .loop .inv in
+    omega (
+      arith,
+      leads-place _ _ _ _ _ _ _ _ _ _ _ _ _ (loop-inv .0) loop-test-taken (loop-inv .1 .fit)
+          (c .before .before .leads .ensures),
+    )
 
 element-write-half : tie.Need-element-write-half Inv-loop μ-loop
-element-write-half c = omega (arith, leads-place _ _ _ _ _ _ _ _ _ _ _ _ _ (c .before .before .before .before .loop .inv .0) (c .before .before .before .loop-test .taken) (c .before .before .before .before .loop .inv .1 .fit) (c .before .before .leads .ensures))
+element-write-half c =
+    let loop-test-taken = c .before .before .before .loop-test .taken in
+    let loop-inv = c .before .before .before .before .loop .inv in
+    omega (
+      arith,
+      leads-place _ _ _ _ _ _ _ _ _ _ _ _ _ (loop-inv .0) loop-test-taken (loop-inv .1 .fit)
+          (c .before .before .leads .ensures),
+    )
 
 cast-order : tie.Need-cast-order Inv-loop μ-loop
-cast-order c = omega (arith, leads-place _ _ _ _ _ _ _ _ _ _ _ _ _ (c .before .before .before .before .loop .inv .0) (c .before .before .before .loop-test .taken) (c .before .before .before .before .loop .inv .1 .fit) (c .before .before .leads .ensures))
+cast-order c =
+    let loop-test-taken = c .before .before .before .loop-test .taken in
+    let loop-inv = c .before .before .before .before .loop .inv in
+    omega (
+      arith,
+      leads-place _ _ _ _ _ _ _ _ _ _ _ _ _ (loop-inv .0) loop-test-taken (loop-inv .1 .fit)
+          (c .before .before .leads .ensures),
+    )
 
 mul-order : tie.Need-mul-order Inv-loop μ-loop
 mul-order c = omega arith
 
 element-write-order : tie.Need-element-write-order Inv-loop μ-loop
-element-write-order c = going-room _ _ _ _ _ _ _ _ _ _ _ _ _ (c .before .before .before .before .loop .inv .0) (c .before .before .before .loop-test .taken) _ (c .before .before .leads .ensures) (leads-place _ _ _ _ _ _ _ _ _ _ _ _ _ (c .before .before .before .before .loop .inv .0) (c .before .before .before .loop-test .taken) (c .before .before .before .before .loop .inv .1 .fit) (c .before .before .leads .ensures)) (c .if1 .taken)
+element-write-order c =
+    let leads-ensures = c .before .before .leads .ensures in
+    let loop-test-taken = c .before .before .before .loop-test .taken in
+    let loop-inv = c .before .before .before .before .loop .inv in
+    going-room _ _ _ _ _ _ _ _ _ _ _ _ _ (loop-inv .0) loop-test-taken _ leads-ensures
+    (leads-place _ _ _ _ _ _ _ _ _ _ _ _ _ (loop-inv .0) loop-test-taken (loop-inv .1 .fit) leads-ensures)
+    (c .if1 .taken)
 
 cast-place : tie.Need-cast-place Inv-loop μ-loop
 cast-place c = omega arith
 
 mul-place : tie.Need-mul-place Inv-loop μ-loop
-mul-place c = omega (arith, leads-place _ _ _ _ _ _ _ _ _ _ _ _ _ (c .before .before .before .before .loop .inv .0) (c .before .before .before .loop-test .taken) (c .before .before .before .before .loop .inv .1 .fit) (c .before .before .leads .ensures))
+mul-place c =
+    let loop-test-taken = c .before .before .before .loop-test .taken in
+    let loop-inv = c .before .before .before .before .loop .inv in
+    omega (
+      arith,
+      leads-place _ _ _ _ _ _ _ _ _ _ _ _ _ (loop-inv .0) loop-test-taken (loop-inv .1 .fit)
+          (c .before .before .leads .ensures),
+    )
 
 element-write-place : tie.Need-element-write-place Inv-loop μ-loop
-element-write-place c = omega (arith, leads-place _ _ _ _ _ _ _ _ _ _ _ _ _ (c .before .before .before .before .loop .inv .0) (c .before .before .before .loop-test .taken) (c .before .before .before .before .loop .inv .1 .fit) (c .before .before .leads .ensures))
+element-write-place c =
+    let loop-test-taken = c .before .before .before .loop-test .taken in
+    let loop-inv = c .before .before .before .before .loop .inv in
+    omega (
+      arith,
+      leads-place _ _ _ _ _ _ _ _ _ _ _ _ _ (loop-inv .0) loop-test-taken (loop-inv .1 .fit)
+          (c .before .before .leads .ensures),
+    )
 
 add-m : tie.Need-add-m Inv-loop μ-loop
 add-m c = omega arith
@@ -98,18 +172,26 @@ wide-requires-3 : tie.Need-wide-requires-3 Inv-loop μ-loop
 wide-requires-3 c κs = search needs
 
 loop-less : tie.Need-loop-less Inv-loop μ-loop
-loop-less c = let g = c .before .before .before .before .before .before .loop .inv .0 in omega (arith, c .wide3 .ensures .0, g .chains .nexts (c .before .before .before .before .before .before .loop .x - 1) (omega (arith, g .low, c .before .before .before .before .before .loop-test .taken)) .below)
+loop-less c =
+    let loop-test-taken = c .before .before .before .before .before .loop-test .taken in
+    let loop-x = c .before .before .before .before .before .before .loop .x in
+    let g = c .before .before .before .before .before .before .loop .inv .0 in
+    omega (arith, c .wide3 .ensures .0, g .chains .nexts (loop-x - 1) (omega (arith, g .low, loop-test-taken)) .below)
 
 loop-again : tie.Need-loop-again Inv-loop μ-loop
 loop-again c =
-    let g = c .before .before .before .before .before .before .loop .inv .0 in
+    let loop-inv = c .before .before .before .before .before .before .loop .inv in
+    let g = loop-inv .0 in
     let z = c .before .before .before .before .before .loop-test .taken in
     let e = c .before .before .before .before .leads .ensures in (
       ⊎-elim
-          (λ w. rw (w .1, w .2, w .3, w .4, w .5) (going-push _ _ _ _ _ _ _ _ _ _ _ _ _ g z _ _ e (leads-place _ _ _ _ _ _ _ _ _ _ _ _ _ g z (c .before .before .before .before .before .before .loop .inv .1 .fit) e) (w .0 .taken) (c .wide3 .ensures .0)))
-          (λ w. rw (w .1, w .2, w .3, w .4, w .5) (going-keep _ _ _ _ _ _ _ _ _ _ _ _ _ g z _ _ e (w .0 .left) (c .wide3 .ensures .0)))
+          (λ w. rw (w .1, w .2, w .3, w .4, w .5)
+          (going-push _ _ _ _ _ _ _ _ _ _ _ _ _ g z _ _ e
+          (leads-place _ _ _ _ _ _ _ _ _ _ _ _ _ g z (loop-inv .1 .fit) e) (w .0 .taken) (c .wide3 .ensures .0)))
+          (λ w. rw (w .1, w .2, w .3, w .4, w .5)
+          (going-keep _ _ _ _ _ _ _ _ _ _ _ _ _ g z _ _ e (w .0 .left) (c .wide3 .ensures .0)))
           (c .before .before .if1 .came),
-      c .before .before .before .before .before .before .loop .inv .1,
+      loop-inv .1,
     )
 
 returns : tie.Need-returns Inv-loop μ-loop
