@@ -11,11 +11,12 @@
 #include <time.h>
 
 enum { SIZES = 3, PAGE = 65536 };
-enum op { HEAVIEST, HEAVIEST_EXACT, LISTING, LISTING_EXACT, PAIR, CLAIM, OPS };
+enum op { HEAVIEST, HEAVIEST_EXACT, LISTING, LISTING_EXACT, PAIR, CLAIM, RING, OPS };
 static const size_t sizes[SIZES] = {256, 1024, 4096};
-static const char *op_names[OPS] = {"Heaviest", "Heaviest exact", "Listing", "Listing exact", "Pair", "Claim and abort"};
+static const char *op_names[OPS] = {"Heaviest", "Heaviest exact", "Listing", "Listing exact", "Pair", "Claim and abort",
+                                    "Refusal 11"};
 
-static uint8_t table[12 * 4096], page_scan[PAGE], page_library[PAGE];
+static uint8_t table[12 * 4096], ringed[12 * 4096], page_scan[PAGE], page_library[PAGE];
 static uint16_t marks_scan[4096], marks_library[4096];
 static size_t n, table_len;
 static double took[SHAPES][SIZES][OPS][2]; /* seconds a call: scan, library */
@@ -41,6 +42,7 @@ static void call(int op, int library, uint16_t a, uint16_t b, int64_t answer[8])
         (library ? hb_pair : scan_pair)(table, table_len, marks, m, a, b, answer);
         answer[5] = 0; /* hops, which a scan does not have */
         break;
+    case RING: (library ? hb_accept : scan_accept)(ringed, table_len, answer); break;
     default:
         (library ? hb_claim : scan_claim)(table, table_len, marks, m, 7, (uint16_t)best[3], (uint16_t)best[4], answer);
         (library ? hb_abort : scan_abort)(table, table_len, marks, m, 7, answer);
@@ -88,10 +90,11 @@ static void mark_every_third(uint16_t mark) {
     for (size_t r = 0; r + 1 < n; r += 3) marks_scan[r] = marks_library[r] = mark;
 }
 
-/* The next net of a shape, all branches free; its heaviest runs are what listings and claims go by. */
+/* The next net of a shape, all branches free; its heaviest runs are what listings and claims go by. Beside it the same with a ring. */
 static void take_net(int shape, size_t nodes, enum lengths lengths) {
     n = nodes;
     table_len = make_net(shape, n, lengths, table);
+    memcpy(ringed, table, table_len), close_ring(n, ringed);
     memset(marks_scan, 0, sizeof marks_scan), memset(marks_library, 0, sizeof marks_library);
     memset(page_scan, 0, PAGE), memset(page_library, 0, PAGE);
     scan_heaviest(table, table_len, marks_scan, n - 1, best);

@@ -63,3 +63,23 @@ size_t make_net(int shape, size_t n, enum lengths lengths, uint8_t table[12 * 40
     put(table + 8, bound_of(shape, n, lengths, far), 4);
     return 12 * n;
 }
+
+void close_ring(size_t n, uint8_t table[12 * 4096]) {
+    uint16_t steps[4096] = {0}; /* one more than the branches from the first row's first node; 0: not reached */
+    size_t last = n - 2, start = table[12] + 256u * table[13], far = start;
+    steps[start] = 1;
+    for (int more = 1; more;) {
+        more = 0;
+        for (size_t r = 0; r < last; r++) {
+            const uint8_t *row = table + 12 + 12 * r;
+            size_t a = row[0] + 256u * row[1], b = row[2] + 256u * row[3];
+            if (!steps[a] == !steps[b]) continue;
+            if (!steps[a]) steps[a] = (uint16_t)(steps[b] + 1);
+            else steps[b] = (uint16_t)(steps[a] + 1);
+            more = 1;
+        }
+    }
+    for (size_t x = 0; x < n; x++)
+        if (steps[x] > steps[far]) far = x;
+    put(table + 12 + 12 * last, start, 2), put(table + 14 + 12 * last, far, 2);
+}

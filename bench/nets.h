@@ -18,4 +18,8 @@ enum lengths { VARIED, EQUAL };
    leaves are that far apart): some pair has exactly this length. Gives the table's size. */
 size_t make_net(int shape, size_t n, enum lengths lengths, uint8_t table[12 * 4096]);
 
+/* Of a net's table, 3 nodes or more, the one whose last row joins the first row's first node to the farthest node that the other rows join to it: the last
+   row closes a ring. */
+void close_ring(size_t n, uint8_t table[12 * 4096]);
+
 #endif

@@ -1,5 +1,5 @@
-/* The plain scan (scan.h). Refusals, rows, neighbours, then a walk from a node that gives every length and weight: for one node, or for each in turn.
-   Its hops are left 0: a scan has no spines. */
+/* The plain scan (scan.h). Refusals, rows, neighbours, then a walk from a node that gives every length and weight: for one node, or for each in turn; the
+   rows of a ring by a walk too. Its hops are left 0: a scan has no spines. */
 #include "scan.h"
 #include <string.h>
 
@@ -34,6 +34,51 @@ static uint16_t top(uint16_t *up, uint16_t x) {
     return x;
 }
 
+/* The halves of each node along the first rows. */
+static void neighbours(net *t, size_t rows) {
+    uint32_t next[MOST];
+    memset(t->first, 0, sizeof t->first);
+    for (size_t r = 0; r < rows; r++) t->first[t->a[r] + 1]++, t->first[t->b[r] + 1]++;
+    for (size_t x = 0; x < t->n; x++) t->first[x + 1] += t->first[x];
+    memcpy(next, t->first, t->n * sizeof *next);
+    for (size_t r = 0; r < rows; r++) {
+        uint32_t h = next[t->a[r]]++, k = next[t->b[r]]++;
+        t->to[h] = t->b[r], t->row[h] = (uint16_t)r;
+        t->to[k] = t->a[r], t->row[k] = (uint16_t)r;
+    }
+}
+
+static void walk(const net *t, uint16_t from, paths *p) {
+    uint16_t stack[MOST];
+    size_t top = 0;
+    stack[top++] = from;
+    p->length[from] = p->weight[from] = 0;
+    p->last[from] = p->from[from] = 65535;
+    while (top) {
+        uint16_t x = stack[--top], back = p->last[x];
+        int64_t length = p->length[x], weight = p->weight[x];
+        for (uint32_t h = t->first[x]; h < t->first[x + 1]; h++) {
+            uint16_t r = t->row[h], y = t->to[h];
+            if (r == back) continue;
+            p->length[y] = length + t->length[r];
+            p->weight[y] = weight + t->weight[r];
+            p->last[y] = r, p->from[y] = x;
+            stack[top++] = y;
+        }
+    }
+}
+
+/* 11 for row r: the ring has it and the rows before it that the walk between its ends takes. */
+static uint8_t refuse_ring(net *t, size_t r, int64_t answer[8]) {
+    paths p;
+    refuse(answer, 11, r);
+    neighbours(t, r);
+    walk(t, t->a[r], &p);
+    answer[2] = 1;
+    for (uint16_t x = t->b[r]; x != t->a[r]; x = p.from[x]) answer[2]++;
+    return 11;
+}
+
 /* 1 to 12. */
 static uint8_t open_net(const uint8_t *s, size_t len, net *t, int64_t answer[8]) {
     if (len < 12) return refuse(answer, 1, 0);
@@ -59,21 +104,12 @@ static uint8_t open_net(const uint8_t *s, size_t len, net *t, int64_t answer[8])
     for (size_t x = 0; x < n; x++) up[x] = (uint16_t)x;
     for (size_t r = 0; r + 1 < n; r++) {
         uint16_t x = top(up, t->a[r]), y = top(up, t->b[r]);
-        if (x == y) return refuse(answer, 11, r);
+        if (x == y) return refuse_ring(t, r, answer);
         up[x] = y;
     }
     for (size_t x = 1; x < n; x++)
         if (top(up, (uint16_t)x) != top(up, 0)) return refuse(answer, 12, 0);
-    memset(t->first, 0, sizeof t->first);
-    for (size_t r = 0; r + 1 < n; r++) t->first[t->a[r] + 1]++, t->first[t->b[r] + 1]++;
-    for (size_t x = 0; x < n; x++) t->first[x + 1] += t->first[x];
-    uint32_t next[MOST];
-    memcpy(next, t->first, n * sizeof *next);
-    for (size_t r = 0; r + 1 < n; r++) {
-        uint32_t h = next[t->a[r]]++, k = next[t->b[r]]++;
-        t->to[h] = t->b[r], t->row[h] = (uint16_t)r;
-        t->to[k] = t->a[r], t->row[k] = (uint16_t)r;
-    }
+    neighbours(t, n - 1);
     return 0;
 }
 
@@ -87,24 +123,13 @@ static uint8_t begin(const uint8_t *s, size_t len, const uint16_t *marks, size_t
     return 0;
 }
 
-static void walk(const net *t, uint16_t from, paths *p) {
-    uint16_t stack[MOST];
-    size_t top = 0;
-    stack[top++] = from;
-    p->length[from] = p->weight[from] = 0;
-    p->last[from] = p->from[from] = 65535;
-    while (top) {
-        uint16_t x = stack[--top], back = p->last[x];
-        int64_t length = p->length[x], weight = p->weight[x];
-        for (uint32_t h = t->first[x]; h < t->first[x + 1]; h++) {
-            uint16_t r = t->row[h], y = t->to[h];
-            if (r == back) continue;
-            p->length[y] = length + t->length[r];
-            p->weight[y] = weight + t->weight[r];
-            p->last[y] = r, p->from[y] = x;
-            stack[top++] = y;
-        }
-    }
+uint8_t scan_accept(const uint8_t *table, size_t table_len, int64_t answer[8]) {
+    net t;
+    uint8_t number = open_net(table, table_len, &t, answer);
+    if (number) return number;
+    refuse(answer, 0, 0);
+    answer[3] = (int64_t)t.n, answer[4] = t.bound;
+    return 0;
 }
 
 uint8_t scan_pair(const uint8_t *table, size_t table_len, const uint16_t *marks, size_t marks_len, uint16_t a, uint16_t b, int64_t answer[8]) {

@@ -4,6 +4,7 @@
 #include <stddef.h>
 #include <stdint.h>
 
+uint8_t scan_accept(const uint8_t *table, size_t table_len, int64_t answer[8]);
 uint8_t scan_pair(const uint8_t *table, size_t table_len, const uint16_t *marks, size_t marks_len, uint16_t a, uint16_t b, int64_t answer[8]);
 uint8_t scan_heaviest(const uint8_t *table, size_t table_len, const uint16_t *marks, size_t marks_len, int64_t answer[8]);
 uint8_t scan_heaviest_exact(const uint8_t *table, size_t table_len, const uint16_t *marks, size_t marks_len, int64_t answer[8]);

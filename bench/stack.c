@@ -1,4 +1,4 @@
-/* How much stack each operation takes: on a thread whose stack was painted, over the five nets of 4,096 nodes; the most is told. */
+/* How much stack each operation takes: on a thread whose stack was painted, over the five nets of 4,096 nodes and the same with a ring; the most is told. */
 #include "hourbench.h"
 #include "nets.h"
 #include <pthread.h>
@@ -31,24 +31,32 @@ static void *call(void *which) {
     return NULL;
 }
 
+/* Each operation on the table as it stands. */
+static int take(uint8_t *stack, size_t most[OPS]) {
+    for (int op = 0; op < OPS; op++) {
+        pthread_attr_t how;
+        pthread_t thread;
+        memset(stack, PAINT, STACK);
+        memset(marks, 0, sizeof marks);
+        pthread_attr_init(&how);
+        pthread_attr_setstack(&how, stack, STACK);
+        if (pthread_create(&thread, &how, call, &op)) return 2;
+        pthread_join(thread, NULL);
+        size_t low = 0;
+        while (low < STACK && stack[low] == PAINT) low++;
+        if (STACK - low > most[op]) most[op] = STACK - low;
+    }
+    return 0;
+}
+
 int main(void) {
     size_t most[OPS] = {0};
     uint8_t *stack = aligned_alloc(4096, STACK);
     for (int shape = 0; shape < SHAPES; shape++) {
         size = make_net(shape, NODES, VARIED, table);
-        for (int op = 0; op < OPS; op++) {
-            pthread_attr_t how;
-            pthread_t thread;
-            memset(stack, PAINT, STACK);
-            memset(marks, 0, sizeof marks);
-            pthread_attr_init(&how);
-            pthread_attr_setstack(&how, stack, STACK);
-            if (pthread_create(&thread, &how, call, &op)) return 2;
-            pthread_join(thread, NULL);
-            size_t low = 0;
-            while (low < STACK && stack[low] == PAINT) low++;
-            if (STACK - low > most[op]) most[op] = STACK - low;
-        }
+        if (take(stack, most)) return 2;
+        close_ring(NODES, table);
+        if (take(stack, most)) return 2;
     }
     printf("| operation | stack, KiB |\n|---|---|\n");
     for (int op = 1; op < OPS; op++) printf("| `%s` | %zu |\n", names[op], (most[op] - most[0] + 1023) / 1024);

@@ -9,7 +9,9 @@ static uint8_t table[12 * 4096 + 1]; /* the largest table, and a byte more: a lo
 static uint16_t marks[4096];         /* one for each branch; all free */
 
 static int refused(const int64_t answer[8]) {
-    printf("refused %" PRId64 " row %" PRId64 "\n", answer[0], answer[1]);
+    printf("refused %" PRId64 " row %" PRId64, answer[0], answer[1]);
+    if (answer[2]) printf(" ring %" PRId64, answer[2]); /* refusal 11 alone: how many rows the ring has */
+    printf("\n");
     return 1;
 }
 

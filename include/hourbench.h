@@ -4,7 +4,8 @@
 
        answer[0]     the refusal number, as returned
        answer[1]     the row that a refusal names, from 0; 0 where none is named
-       answer[2]     0, reserved
+       answer[2]     for refusal 11, how many rows the ring has that this row closes, itself and rows before it: 2 for a
+                     repeated row; otherwise 0
        answer[3..]   the operation's fields, in the order named at each function; zeros after them, and in a refusal
 
    A refusal changes no other memory. What each function promises is proved (docs/PROMISES.md, capi).
@@ -42,9 +43,9 @@
 #include <stdint.h>
 
 /* The library's version; CHANGES.md says how it moves. */
-#define HB_VERSION "1.2.0"
+#define HB_VERSION "1.3.0"
 #define HB_VERSION_MAJOR 1
-#define HB_VERSION_MINOR 2
+#define HB_VERSION_MINOR 3
 #define HB_VERSION_PATCH 0
 
 #ifdef __cplusplus

@@ -113,24 +113,25 @@ fn sum_marks(marks: &[u16]) -> u64 {
     sum(marks.iter().map(|m| *m as u64))
 }
 
-/// Number, row and the fields, which are all 0 in a refusal.
+/// Number, row and ring, and the fields, which are all 0 in a refusal.
 fn fields<T>(r: Answer<T>, zeros: &str, show: impl Fn(T) -> String) -> String {
     match r {
-        Ok(x) => format!("0 0 {}", show(x)).trim_end().to_string(),
-        Err((number, row)) => format!("{number} {row} {zeros}").trim_end().to_string(),
+        Ok(x) => format!("0 0 0 {}", show(x)).trim_end().to_string(),
+        Err(net::Refused { number, row, ring }) => format!("{number} {row} {ring} {zeros}").trim_end().to_string(),
     }
 }
 
 type Answer<T> = std::result::Result<T, net::Refused>;
 
-/// The report of a case's table, all branches free: its lines as document 01 has them.
+/// The report of a case's table, all branches free: its lines as documents 01 and 02 have them.
 pub fn report(out: &mut impl Write, c: &Case) -> Result<()> {
     let t = &c.table[..];
     let free = |n: usize| vec![0; n - 1];
     let found = net::accept(t).and_then(|net| Ok((net::heaviest(t, &free(net.n))?, net)));
     let ((a, b, length, weight), net) = match found {
         Ok(x) => x,
-        Err((number, row)) => return writeln!(out, "refused {number} row {row}"),
+        Err(why) if why.number == 11 => return writeln!(out, "refused 11 row {} ring {}", why.row, why.ring),
+        Err(why) => return writeln!(out, "refused {} row {}", why.number, why.row),
     };
     writeln!(out, "net {} bound {}", net.n, net.bound)?;
     writeln!(out, "best {a} {b} length {length} weight {weight}")?;

@@ -43,7 +43,28 @@ fn exact() -> Vec<Case> {
     all
 }
 
-/// Document 01's small net N5, each of its cases, and Req 02's.
+/// Nets with rings (document 02, Req 03): of two rows, either way round; of three, with a branch apart; in a far part;
+/// of all rows, closed by the last; two rings, of which the first to close is told, once the longer and once the
+/// shorter; and one with rows that hang from it, lead to it and follow it.
+fn rings() -> Vec<Vec<Branch>> {
+    let of = |ends: &[(u16, u16)]| ends.iter().map(|(a, b)| (*a, *b, 3, 2)).collect();
+    vec![
+        of(&[(0, 1), (0, 1), (1, 3), (3, 4)]),
+        of(&[(0, 1), (1, 2), (1, 0), (3, 4)]),
+        of(&[(0, 1), (1, 2), (2, 0), (3, 4)]),
+        of(&[(0, 1), (2, 3), (3, 4), (4, 2)]),
+        of(&[(4, 3), (1, 0), (3, 2), (0, 2), (1, 4)]),
+        of(&[(0, 1), (1, 2), (2, 0), (1, 0)]),
+        of(&[(0, 1), (1, 0), (1, 2), (2, 0)]),
+        of(&[(0, 1), (1, 2), (1, 3), (3, 4), (4, 5), (2, 6), (4, 2), (7, 8)]),
+    ]
+}
+
+fn ringed(rows: Vec<Branch>) -> Vec<u8> {
+    table(rows.len() as u16 + 1, 8, &rows)
+}
+
+/// Document 01's small net N5, each of its cases, Req 02's and Req 03's.
 pub fn worked() -> Vec<Case> {
     let n5 = |bound| plain(table(5, bound, &N5), &[0; 4]);
     let mut all: Vec<Case> = [9, 8, 10, 2, 1, 7, 5].iter().map(|b| n5(*b)).collect();
@@ -70,6 +91,7 @@ pub fn worked() -> Vec<Case> {
         all.push(plain(table(5, 8, &long), &[0; 4]));
     }
     all.extend(exact());
+    all.extend(rings().into_iter().map(|rows| plain(ringed(rows.clone()), &vec![0; rows.len()])));
     all
 }
 
@@ -82,6 +104,7 @@ pub fn reports() -> Vec<Case> {
     let mut ring = N5;
     ring[1] = (0, 1, 3, 2);
     all.push(of(table(5, 8, &ring), 16));
+    all.extend(rings().into_iter().map(|rows| of(ringed(rows), 16)));
     all.push(of(table(1, 9, &[]), 16));
     all.push(of(vec![], 16));
     all.push(of(table_of_five(8)[..48].to_vec(), 16));
@@ -191,7 +214,7 @@ fn damage(r: &mut Random, t: &mut Vec<u8>, n: usize) {
         }
     };
     let (one, two) = (some_row(r), some_row(r));
-    match r.below(16) {
+    match r.below(17) {
         0 => t.truncate(r.below(t.len() + 1)),
         1 => t.truncate(r.below(14)),
         2 => t.extend(vec![0; 1 + r.below(13)]),
@@ -204,11 +227,12 @@ fn damage(r: &mut Random, t: &mut Vec<u8>, n: usize) {
         8 => put(t, one, &[t[one + 2], t[one + 3]].clone()),
         9 => put(t, one + 4, &r.pick(&[1_000_001u32, 1 << 31, u32::MAX]).to_le_bytes()),
         10 => put(t, one + 8, &r.pick(&[1_000_001i32, -1_000_001, i32::MIN, i32::MAX]).to_le_bytes()),
-        // Rings: a repeat, a repeat the other way round, a row moved, three rows moved, a node changed.
+        // Rings: a repeat, a repeat the other way round, an end moved, three ends moved, a row moved; a byte changed.
         11 => { let row = t[one..one + 4].to_vec(); put(t, two, &row) }
         12 => { let row = [t[one + 2], t[one + 3], t[one], t[one + 1]]; put(t, two, &row) }
         13 => put(t, one, &(r.below(n) as u16).to_le_bytes()),
         14 => for _ in 0..3 { let at = some_row(r); put(t, at + 2, &(r.below(n) as u16).to_le_bytes()) },
+        15 => for end in [one, one + 2] { put(t, end, &(r.below(n) as u16).to_le_bytes()) },
         _ => { let at = r.below(t.len()); put(t, at, &[r.next() as u8]) }
     }
 }

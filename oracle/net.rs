@@ -1,7 +1,17 @@
 //! A net and what every operation says of it, straight from documents 01 and 02: plain scans, nothing clever.
 
-/// A refusal: its number and the row it names (0 where it names none).
-pub type Refused = (u8, usize);
+/// A refusal: its number, the row it names (0 where it names none), and for 11 alone how many rows the ring has, else 0
+/// (document 02, Req 03).
+pub struct Refused {
+    pub number: u8,
+    pub row: usize,
+    pub ring: usize,
+}
+
+/// A refusal that tells of no ring.
+fn refused(number: u8, row: usize) -> Refused {
+    Refused { number, row, ring: 0 }
+}
 
 pub struct Row {
     pub ends: [usize; 2],
@@ -33,26 +43,45 @@ fn u32_at(s: &[u8], at: usize) -> u32 {
     u32::from_le_bytes([s[at], s[at + 1], s[at + 2], s[at + 3]])
 }
 
+/// How many branches the path has that these rows, which make no ring, make between two of n nodes: from the one node
+/// on, a row with one end reached reaches its other, until the second node is reached.
+fn between(n: usize, rows: &[Row], ends: [usize; 2]) -> usize {
+    let mut branches = vec![None; n];
+    branches[ends[0]] = Some(0);
+    loop {
+        if let Some(k) = branches[ends[1]] {
+            return k;
+        }
+        for row in rows {
+            match row.ends.map(|x| branches[x]) {
+                [Some(k), None] => branches[row.ends[1]] = Some(k + 1),
+                [None, Some(k)] => branches[row.ends[0]] = Some(k + 1),
+                _ => {}
+            }
+        }
+    }
+}
+
 /// Refusals 1 to 12, in document 01's order.
 pub fn accept(s: &[u8]) -> Result<Net, Refused> {
     if s.len() < 12 {
-        return Err((1, 0));
+        return Err(refused(1, 0));
     }
     if &s[0..3] != b"RTN" {
-        return Err((2, 0));
+        return Err(refused(2, 0));
     }
     if u16_at(s, 3) != 1 {
-        return Err((3, 0));
+        return Err(refused(3, 0));
     }
     let n = u16_at(s, 5);
     if n == 0 || n > 4096 {
-        return Err((4, 0));
+        return Err(refused(4, 0));
     }
     if s[7] != 0 {
-        return Err((5, 0));
+        return Err(refused(5, 0));
     }
     if s.len() != 12 * n {
-        return Err((6, 0));
+        return Err(refused(6, 0));
     }
     let mut rows = Vec::new();
     for r in 0..n - 1 {
@@ -61,16 +90,16 @@ pub fn accept(s: &[u8]) -> Result<Net, Refused> {
         let length = u32_at(s, at + 4) as u64;
         let weight = u32_at(s, at + 8) as i32 as i64;
         if ends[0] >= n || ends[1] >= n {
-            return Err((7, r));
+            return Err(refused(7, r));
         }
         if ends[0] == ends[1] {
-            return Err((8, r));
+            return Err(refused(8, r));
         }
         if length > 1_000_000 {
-            return Err((9, r));
+            return Err(refused(9, r));
         }
         if !(-1_000_000..=1_000_000).contains(&weight) {
-            return Err((10, r));
+            return Err(refused(10, r));
         }
         rows.push(Row { ends, length, weight });
     }
@@ -79,7 +108,7 @@ pub fn accept(s: &[u8]) -> Result<Net, Refused> {
     for (r, row) in rows.iter().enumerate() {
         let (x, y) = (label[row.ends[0]], label[row.ends[1]]);
         if x == y {
-            return Err((11, r));
+            return Err(Refused { number: 11, row: r, ring: 1 + between(n, &rows[..r], row.ends) });
         }
         for l in label.iter_mut() {
             if *l == y {
@@ -88,7 +117,7 @@ pub fn accept(s: &[u8]) -> Result<Net, Refused> {
         }
     }
     if label.iter().any(|l| *l != label[0]) {
-        return Err((12, 0));
+        return Err(refused(12, 0));
     }
     let mut beside = vec![Vec::new(); n];
     for (r, row) in rows.iter().enumerate() {
@@ -167,19 +196,19 @@ impl Net {
 
     /// 13.
     fn marks_fit(&self, marks: &[u16]) -> Result<(), Refused> {
-        if marks.len() != self.n - 1 { Err((13, 0)) } else { Ok(()) }
+        if marks.len() != self.n - 1 { Err(refused(13, 0)) } else { Ok(()) }
     }
 
     /// 15.
     fn two_nodes(&self, a: u16, b: u16) -> Result<(usize, usize), Refused> {
         let (a, b) = (a as usize, b as usize);
-        if a >= self.n || b >= self.n || a == b { Err((15, 0)) } else { Ok((a, b)) }
+        if a >= self.n || b >= self.n || a == b { Err(refused(15, 0)) } else { Ok((a, b)) }
     }
 }
 
 /// 14.
 fn run_number(run: u16) -> Result<(), Refused> {
-    if run == 0 || run == 65535 { Err((14, 0)) } else { Ok(()) }
+    if run == 0 || run == 65535 { Err(refused(14, 0)) } else { Ok(()) }
 }
 
 /// Length, weight and hops of the path between two nodes.
@@ -216,7 +245,7 @@ pub fn heaviest(s: &[u8], marks: &[u16]) -> Result<(usize, usize, u64, i64), Ref
             }
         }
     }
-    best.ok_or((16, 0))
+    best.ok_or(refused(16, 0))
 }
 
 /// The heaviest pair of length exactly B, the earlier among equals (document 02, Req 02).
@@ -232,14 +261,14 @@ pub fn heaviest_exact(s: &[u8], marks: &[u16]) -> Result<(usize, usize, u64, i64
             }
         }
     }
-    best.ok_or((21, 0))
+    best.ok_or(refused(21, 0))
 }
 
 /// Each node's head into the lent list.
 pub fn heads(s: &[u8], list: &mut [u16]) -> Result<(), Refused> {
     let net = accept(s)?;
     if list.len() != net.n {
-        return Err((20, 0));
+        return Err(refused(20, 0));
     }
     for (x, h) in net.heads().iter().enumerate() {
         list[x] = *h as u16;
@@ -266,7 +295,7 @@ pub fn listing(
     let net = accept(s)?;
     net.marks_fit(marks)?;
     if page.len() < 16 {
-        return Err((17, 0));
+        return Err(refused(17, 0));
     }
     let (mut written, mut left) = (0, 0);
     for a in 0..net.n {
@@ -303,11 +332,11 @@ pub fn claim(s: &[u8], marks: &mut [u16], run: u16, a: u16, b: u16) -> Result<us
     let (a, b) = net.two_nodes(a, b)?;
     let rows = net.path(a, b).0;
     if rows.iter().map(|r| net.rows[*r].length).sum::<u64>() > net.bound {
-        return Err((18, 0));
+        return Err(refused(18, 0));
     }
     let free: Vec<usize> = rows.into_iter().filter(|r| marks[*r] == 0).collect();
     if free.is_empty() {
-        return Err((19, 0));
+        return Err(refused(19, 0));
     }
     for r in &free {
         marks[*r] = run;

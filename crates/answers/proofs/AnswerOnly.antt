@@ -7,7 +7,7 @@ use mathlib.Core.Logic.{_≢_}
 use mathlib.Core.List.{List}
 use native.Mathlib.Omega.{arith}
 use lib.IntN.{ℤ}
-use Rattle.table.specs.declared.Refusal.{Refusal}
+use Rattle.tree.specs.declared.Refusal.{Refusal}
 use Rattle.tree.specs.Members.{at}
 use Rattle.tree.proofs.Counts.{count-some}
 use Rattle.spines.proofs.Theorems.{head-there}
@@ -49,7 +49,8 @@ module _ (none : ℕ) (some : none ≢ 0) (Within : ℕ → Type 0) (s marks : L
           λ i. run.Between (e i .low) (e i .high) (e i .length) (e i .weight)
       same (run.Between a b l w) (run.Refused r) p q e = absurd (no-run a b l w r p e)
       same (run.Refused r) (run.Between a b l w) p q e = absurd (no-run a b l w r q (sym e))
-      same (run.Refused r) (run.Refused t) p q e = λ i. run.Refused (record { number = e i .number; row = e i .row })
+      same (run.Refused r) (run.Refused t) p q e =
+          λ i. run.Refused (record { number = e i .number; row = e i .row; ring = e i .ring })
 
 module _ (s marks : List ℕ) where
   pub heaviest-answer-only : (x y : Run) → HeaviestOf s marks (H.outcome x) → HeaviestOf s marks (H.outcome y) → x ≡ y
@@ -81,7 +82,7 @@ module _ (s marks : List ℕ) where
         same (path.Found l w h) (path.Refused r) p q e = absurd (no-path l w h r p e)
         same (path.Refused r) (path.Found l w h) p q e = absurd (no-path l w h r q (sym e))
         same (path.Refused r) (path.Refused t) p q e =
-            λ i. path.Refused (record { number = e i .number; row = e i .row })
+            λ i. path.Refused (record { number = e i .number; row = e i .row; ring = e i .ring })
 
   -- listing
   pub listing-answer-only : (floor : ℤ) (low high : ℕ) (old : List ℕ) (x y : Listed) (l m : List ℕ)

@@ -11,9 +11,8 @@ use native.Mathlib.Decide.{decLt}
 use lib.IntN.{ℤ}
 use lib.ListN.{length}
 use Rattle.table.specs.Header.{nodesOf, boundOf}
-use Rattle.table.specs.Outcome.{found as accepted}
 use Rattle.table.proofs.Refusals.{settled}
-use Rattle.tree.specs.Accept.{Accepts}
+use Rattle.tree.specs.Accept.{found as accepted, Accepts}
 use Rattle.tree.specs.Net.{Net}
 use Rattle.tree.proofs.Begins.{begins-rest}
 use Rattle.pages.specs.Listing.{Entry, Listing}

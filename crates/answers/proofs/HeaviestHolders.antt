@@ -5,8 +5,8 @@ use mathlib.Core.Path.{_≡_}
 use mathlib.Core.List.{List}
 use lib.ListN.{length}
 use Rattle.table.specs.Refuse.{Unless, refused, passed}
-use Rattle.table.proofs.Refusals.{unless-map, first-bad-map}
-use Rattle.table.proofs.Accepted.{tested-map}
+use Rattle.table.proofs.Refusals.{unless-map}
+use Rattle.tree.proofs.Begins.{begins-map}
 use Rattle.marks.proofs.Weights.{Alike}
 use Rattle.pages.specs.Listing.{Entry}
 use Rattle.answers.specs.Heaviest.{Outcome, refusal, Runs, Gives, Goes, HeaviestWithin}
@@ -50,8 +50,7 @@ module _ (none : ℕ) (Within : ℕ → Type 0) (s marks marks′ : List ℕ) (h
       (λ _. unless-iff (λ t. (t .0, f (t .0) (t .1))) (λ t. (t .0, g (t .0) (t .1))) (gives-alike f g)) p)
 
   heaviest-alike : {x : Outcome} → HeaviestWithin none Within s marks x → HeaviestWithin none Within s marks′ x
-  heaviest-alike p =
-      tested-map (λ o. o) refusal s (λ _. first-bad-map (λ o. o) (λ _. unless-map (λ o. o) (λ _. goes-alike))) p
+  heaviest-alike p = begins-map refusal s (λ _. goes-alike) p
 
   pub heaviest-holders-never-show : (x y : Outcome) → HeaviestWithin none Within s marks x
       → HeaviestWithin none Within s marks′ y → x ≡ y

@@ -6,9 +6,9 @@ use mathlib.Core.List.{List}
 use lib.IntN.{ℤ}
 use lib.ListN.{length}
 use Rattle.table.specs.Header.{nodesOf}
-use Rattle.table.proofs.Refusals.{unless-map, first-bad-map}
-use Rattle.table.proofs.Accepted.{tested-map}
+use Rattle.table.proofs.Refusals.{unless-map}
 use Rattle.tree.proofs.Values.{total-same}
+use Rattle.tree.proofs.Begins.{begins-map}
 use Rattle.marks.specs.Weighs.{weightUnder}
 use Rattle.marks.proofs.Weights.{Alike, holders-alike}
 use Rattle.pages.specs.Listing.{Entry}
@@ -47,6 +47,7 @@ lists-alike s marks marks′ h Within floor n low high old p =
       taken = p .taken;
       number = p .number;
       row = p .row;
+      ring = p .ring;
       page = record {
         some = p .page .some;
         page = page-iff (qualifies-alike s marks marks′ h n) (qualifies-alike s marks′ marks (flip marks marks′ h) n)
@@ -67,10 +68,7 @@ listing-alike : (s marks marks′ : List ℕ) → Alike marks marks′ → lengt
     → (Within : ℕ → Type 0) (floor : ℤ) (low high : ℕ) (old : List ℕ) {x : Outcome}
     → ListingWithin Within s marks floor low high old x → ListingWithin Within s marks′ floor low high old x
 listing-alike s marks marks′ h e Within floor low high old p =
-    tested-map (λ o. o) (refusal old) s
-    (λ _. first-bad-map (λ o. o)
-    (λ _. unless-map (λ o. o) (λ _. goes-alike s marks marks′ h e Within floor (nodesOf s) low high old)))
-    p
+    begins-map (refusal old) s (λ _. goes-alike s marks marks′ h e Within floor (nodesOf s) low high old) p
 
 pub holders-never-show : (Within : ℕ → Type 0) (s marks marks′ : List ℕ) → Alike marks marks′
     → length marks ≡ length marks′ → (floor : ℤ) (low high : ℕ) (old : List ℕ) (x y : Outcome)

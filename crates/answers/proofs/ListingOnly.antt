@@ -25,8 +25,9 @@ lists-only P low high old x y a b =
     let e = paged-only (a .page) (b .page) in
     let n : x .number ≡ y .number = a .number ∙ sym (b .number) in
     let r : x .row ≡ y .row = a .row ∙ sym (b .row) in
+    let g : x .ring ≡ y .ring = a .ring ∙ sym (b .ring) in
     let t : x .refused ≡ y .refused = a .taken ∙ sym (b .taken) in
-    λ i. record { refused = t i; number = n i; row = r i; written = e .0 i; left = e .1 i; bytes = e .2 i }
+    λ i. record { refused = t i; number = n i; row = r i; ring = g i; written = e .0 i; left = e .1 i; bytes = e .2 i }
 
 pub listing-within-only : (Within : ℕ → Type 0) (s marks : List ℕ) (floor : ℤ) (low high : ℕ) (old : List ℕ)
     → Only (ListingWithin Within s marks floor low high old)
@@ -50,13 +51,14 @@ listed-one (Rows a b) (Refused w) l m e =
 listed-one (Refused w) (Rows a b) l m e =
     let f : _≡_ {A = ℕ} 1 0 = ap (λ (o : Outcome). cond (o .refused) 1 0) e in
     absurd (omega (arith, f))
-listed-one (Refused w) (Refused v) l m e = λ i. Refused (record { number = e i .number; row = e i .row })
+listed-one (Refused w) (Refused v) l m e =
+    λ i. Refused (record { number = e i .number; row = e i .row; ring = e i .ring })
 
 -- what a call that is not refused gives
 module _ (Within : ℕ → Type 0) (s marks : List ℕ) (floor : ℤ) (low high : ℕ) (old : List ℕ) (x : Outcome)
     (z : x .number ≡ 0) where
-  plain : (k r : ℕ) → (k ≡ 0 → ⊥) → refusal old k r ≡ x → ⊥
-  plain k r m e = m (ap (λ (o : Outcome). o .number) e ∙ z)
+  plain : (k r g : ℕ) → (k ≡ 0 → ⊥) → refusal old k r g ≡ x → ⊥
+  plain k r g m e = m (ap (λ (o : Outcome). o .number) e ∙ z)
 
   pub listing-page : ListingWithin Within s marks floor low high old x
       → Net s (nodesOf s)
@@ -64,4 +66,4 @@ module _ (Within : ℕ → Type 0) (s marks : List ℕ) (floor : ℤ) (low high 
       (x .bytes)
   listing-page p =
       let n = begins-past (refusal old) s plain p in
-      (n .0, past (plain 17 0 (λ e. omega arith)) (past (plain 13 0 (λ e. omega arith)) (n .1) .1) .1 .page)
+      (n .0, past (plain 17 0 0 (λ e. omega arith)) (past (plain 13 0 0 (λ e. omega arith)) (n .1) .1) .1 .page)

@@ -15,10 +15,11 @@ shows-only : (s marks : List ℕ) (n a b : ℕ) → Net s n → Only (Shows s ma
 shows-only s marks n a b t x y p q =
     let k : x .number ≡ y .number = p .number ∙ sym (q .number) in
     let r : x .row ≡ y .row = p .row ∙ sym (q .row) in
+    let g : x .ring ≡ y .ring = p .ring ∙ sym (q .ring) in
     let l : x .length ≡ y .length = length-only (firstEnd s) (secondEnd s) (t .forest) (p .path) (q .path) in
     let w : x .weight ≡ y .weight = weight-only (firstEnd s) (secondEnd s) (t .forest) (p .path) (q .path) in
     let h : x .hops ≡ y .hops = hops-only (t .forest) (p .hops) (q .hops) in
-    λ i. record { number = k i; row = r i; length = l i; weight = w i; hops = h i }
+    λ i. record { number = k i; row = r i; ring = g i; length = l i; weight = w i; hops = h i }
 
 pub pair-only : (s marks : List ℕ) (a b : ℕ) → Only (PairOf s marks a b)
 pair-only s marks a b =

@@ -51,6 +51,7 @@ module _ {s marks parent order place bl bw : List ℕ} {n x y nodes a b : ℕ} (
         (record {
           number = refl;
           row = refl;
+          ring = refl;
           path = path;
           hops = h .hops (firstEnd s) (secondEnd s) (n - 1) (λ v. at (stands .half) v / 2)
               (walk-rooted (stands .net) (stands .walked));

@@ -6,11 +6,10 @@ use mathlib.Core.List.{List}
 use native.Mathlib.Omega.{arith}
 use Rattle.table.specs.Refuse.{Unless, refused, passed}
 use Rattle.table.specs.Header.{nodesOf}
-use Rattle.table.proofs.Refusals.{past, unless-map, first-bad-map}
-use Rattle.table.proofs.Accepted.{tested-map}
+use Rattle.table.proofs.Refusals.{past, unless-map}
 use Rattle.tree.specs.Count.{Count}
 use Rattle.tree.specs.Net.{firstEnd, secondEnd, Net, TwoNodes}
-use Rattle.tree.proofs.Begins.{begins-past}
+use Rattle.tree.proofs.Begins.{begins-past, begins-map}
 use Rattle.tree.proofs.Flip.{value-flip}
 use Rattle.spines.specs.Spine.{ChildOf, Leaf}
 use Rattle.spines.specs.Hops.{FloorLog}
@@ -20,15 +19,15 @@ use Rattle.answers.specs.Pair.{Outcome, refusal, Shows, PairOf}
 use Rattle.answers.proofs.PairOnly.{pair-only}
 
 module _ (s marks : List ℕ) (a b : ℕ) (x : Outcome) (z : x .number ≡ 0) (p : PairOf s marks a b x) where
-  plain : (k r : ℕ) → (k ≡ 0 → ⊥) → refusal k r ≡ x → ⊥
-  plain k r m e = m (ap (λ (o : Outcome). o .number) e ∙ z)
+  plain : (k r g : ℕ) → (k ≡ 0 → ⊥) → refusal k r g ≡ x → ⊥
+  plain k r g m e = m (ap (λ (o : Outcome). o .number) e ∙ z)
 
   -- an answer without a number shows the path between two different nodes of an accepted net
   pub pair-shows : Net s (nodesOf s) × TwoNodes (nodesOf s) a b × Shows s marks (nodesOf s) a b x
   pair-shows =
       let n = begins-past refusal s plain p in
-      let q = past (plain 13 0 (λ e. omega arith)) (n .1) in
-      let r = past (plain 15 0 (λ e. omega arith)) (q .1) in
+      let q = past (plain 13 0 0 (λ e. omega arith)) (n .1) in
+      let r = past (plain 15 0 0 (λ e. omega arith)) (q .1) in
       (n .0, r .0, r .1)
 
   -- its hops are at most 1 + 2 × floor(log2 of the number of leaves)
@@ -46,19 +45,18 @@ shows-flip {s} p =
     record {
       number = p .number;
       row = p .row;
+      ring = p .ring;
       path = value-flip (firstEnd s) (secondEnd s) (p .path);
       hops = hops-flip (p .hops);
     }
 
 nodes-flip : {s marks : List ℕ} {n a b : ℕ} {x : Outcome}
-    → Unless Outcome (refusal 15 0) (TwoNodes n a b) (Shows s marks n a b) x
-    → Unless Outcome (refusal 15 0) (TwoNodes n b a) (Shows s marks n b a) x
+    → Unless Outcome (refusal 15 0 0) (TwoNodes n a b) (Shows s marks n a b) x
+    → Unless Outcome (refusal 15 0 0) (TwoNodes n b a) (Shows s marks n b a) x
 nodes-flip (refused c) = refused (λ t. c (two-flip t))
 nodes-flip (passed t p) = passed (two-flip t) (shows-flip p)
 
 pub pair-either : (s marks : List ℕ) (a b : ℕ) (x y : Outcome) → PairOf s marks a b x → PairOf s marks b a y → x ≡ y
 pair-either s marks a b x y p q =
     pair-only s marks b a x y
-    (tested-map (λ o. o) refusal s
-    (λ _. first-bad-map (λ o. o) (λ _. unless-map (λ o. o) (λ _. unless-map (λ o. o) (λ _. nodes-flip)))) p)
-    q
+    (begins-map refusal s (λ _. unless-map (λ o. o) (λ _. nodes-flip)) p) q

@@ -14,25 +14,26 @@ use Rattle.answers.specs.PathOf.{PathOf}
 use Rattle.answers.specs.declared.best.Run.{Run}
 use Rattle.answers.specs.declared.best.Run.the-variants.{Between, Refused}
 
--- all that a call leaves: the paper's number and row, the two nodes, length and weight
+-- all that a call leaves: the paper's number, row and ring, the two nodes, length and weight
 pub record Outcome : Type 0 where
   pub number : ℕ
   pub row : ℕ
+  pub ring : ℕ
   pub low : ℕ
   pub high : ℕ
   pub length : ℕ
   pub weight : ℤ
 
--- a refusal: number and row, zeros elsewhere
-abbrev pub refusal : ℕ → ℕ → Outcome
-refusal k r = record { number = k; row = r; low = 0; high = 0; length = 0; weight = pos 0 }
+-- a refusal: number, row and ring, zeros elsewhere
+abbrev pub refusal : ℕ → ℕ → ℕ → Outcome
+refusal k r g = record { number = k; row = r; ring = g; low = 0; high = 0; length = 0; weight = pos 0 }
 
 abbrev pub found : Entry → Outcome
-found e = record { number = 0; row = 0; low = e .low; high = e .high; length = e .length; weight = e .weight }
+found e = record { number = 0; row = 0; ring = 0; low = e .low; high = e .high; length = e .length; weight = e .weight }
 
 abbrev pub outcome : Run → Outcome
 outcome (Between a b l w) = found (entry a b l w)
-outcome (Refused r) = refusal (r .number) (r .row)
+outcome (Refused r) = refusal (r .number) (r .row) (r .ring)
 
 -- the pairs of the net of n nodes within the length test, of any weight
 abbrev pub Runs : (ℕ → Type 0) → List ℕ → List ℕ → ℕ → Entry → Type 0
@@ -57,8 +58,8 @@ pub record Gives (P : Entry → Type 0) (o : Outcome) : Type 0 where
 -- 13, then `none` where no pair is within the length test, then the heaviest run, of a net of n nodes
 abbrev pub Goes : ℕ → (ℕ → Type 0) → List ℕ → ℕ → List ℕ → Outcome → Type 0
 Goes none Within s n marks =
-    Unless Outcome (refusal 13 0) (length marks ≡ n - 1)
-    (Unless Outcome (refusal none 0) ((e : Entry) × Runs Within s marks n e)
+    Unless Outcome (refusal 13 0 0) (length marks ≡ n - 1)
+    (Unless Outcome (refusal none 0 0) ((e : Entry) × Runs Within s marks n e)
     (Gives (Runs Within s marks n)))
 
 -- the whole promise, under any length test; heaviest's own: 16, at most B; and heaviest_exact's: 21, exactly B

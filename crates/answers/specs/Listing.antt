@@ -15,36 +15,38 @@ use Rattle.answers.specs.PathOf.{PathOf}
 use Rattle.answers.specs.declared.Listed.{Listed}
 use Rattle.answers.specs.declared.Listed.the-variants.{Rows, Refused}
 
--- all that a call leaves: whether it was refused, the paper's number and row, rows written and left over, and the lent
--- bytes
+-- all that a call leaves: whether it was refused, the paper's number, row and ring, rows written and left over, and
+-- the lent bytes
 pub record Outcome : Type 0 where
   pub refused : Bool
   pub number : ℕ
   pub row : ℕ
+  pub ring : ℕ
   pub written : ℕ
   pub left : ℕ
   pub bytes : List ℕ
 
 -- a refusal leaves the lent bytes as they were
-abbrev pub refusal : List ℕ → ℕ → ℕ → Outcome
-refusal old k r = record { refused = true; number = k; row = r; written = 0; left = 0; bytes = old }
+abbrev pub refusal : List ℕ → ℕ → ℕ → ℕ → Outcome
+refusal old k r g = record { refused = true; number = k; row = r; ring = g; written = 0; left = 0; bytes = old }
 
 abbrev pub outcome : Listed → List ℕ → Outcome
-outcome (Rows w l) now = record { refused = false; number = 0; row = 0; written = w; left = l; bytes = now }
-outcome (Refused r) now = refusal now (r .number) (r .row)
+outcome (Rows w l) now = record { refused = false; number = 0; row = 0; ring = 0; written = w; left = l; bytes = now }
+outcome (Refused r) now = refusal now (r .number) (r .row) (r .ring)
 
 -- a page of what qualifies, from the starting pair on; an empty page is no refusal
 pub record Lists (P : Entry → Type 0) (low high : ℕ) (old : List ℕ) (o : Outcome) : Type 0 where
   pub taken : o .refused ≡ false
   pub number : o .number ≡ 0
   pub row : o .row ≡ 0
+  pub ring : o .ring ≡ 0
   pub page : Paged P low high old (o .written) (o .left) (o .bytes)
 
 -- 13 and 17, then the page, of a net of n nodes under any length test
 abbrev pub Goes : (ℕ → Type 0) → List ℕ → ℕ → List ℕ → ℤ → ℕ → ℕ → List ℕ → Outcome → Type 0
 Goes Within s n marks floor low high old =
-    Unless Outcome (refusal old 13 0) (length marks ≡ n - 1)
-    (Unless Outcome (refusal old 17 0) (16 ≤ length old)
+    Unless Outcome (refusal old 13 0 0) (length marks ≡ n - 1)
+    (Unless Outcome (refusal old 17 0 0) (16 ≤ length old)
     (Lists (Qualifies (PathOf s marks n) Within floor n) low high old))
 
 -- the whole promise, under any length test; the listing's own: at most B; and listing_exact's: exactly B

@@ -14,34 +14,36 @@ use Rattle.answers.specs.PathOf.{PathOf}
 use Rattle.answers.specs.declared.between.PairAnswer.{PairAnswer}
 use Rattle.answers.specs.declared.between.PairAnswer.the-variants.{Found, Refused}
 
--- number and row, length, weight and hops
+-- number, row and ring, length, weight and hops
 pub record Outcome : Type 0 where
   pub number : ℕ
   pub row : ℕ
+  pub ring : ℕ
   pub length : ℕ
   pub weight : ℤ
   pub hops : ℕ
 
 -- a refusal has zeros elsewhere
-abbrev pub refusal : ℕ → ℕ → Outcome
-refusal k r = record { number = k; row = r; length = 0; weight = pos 0; hops = 0 }
+abbrev pub refusal : ℕ → ℕ → ℕ → Outcome
+refusal k r g = record { number = k; row = r; ring = g; length = 0; weight = pos 0; hops = 0 }
 
 abbrev pub outcome : PairAnswer → Outcome
-outcome (Found l w h) = record { number = 0; row = 0; length = l; weight = w; hops = h }
-outcome (Refused why) = refusal (why .number) (why .row)
+outcome (Found l w h) = record { number = 0; row = 0; ring = 0; length = l; weight = w; hops = h }
+outcome (Refused why) = refusal (why .number) (why .row) (why .ring)
 
 -- the path from a to b: its length, its weight under the marks, and how many different spines it touches
 pub record Shows (s marks : List ℕ) (n a b : ℕ) (x : Outcome) : Type 0 where
   pub number : x .number ≡ 0
   pub row : x .row ≡ 0
+  pub ring : x .ring ≡ 0
   pub path : PathOf s marks n a b (x .length) (x .weight)
   pub hops : Hops (firstEnd s) (secondEnd s) (n - 1) n a b (x .hops)
 
 -- 13 and 15, and then the path
 abbrev pub Measures : List ℕ → List ℕ → ℕ → ℕ → ℕ → Outcome → Type 0
 Measures s marks n a b =
-    Unless Outcome (refusal 13 0) (length marks ≡ n - 1)
-    (Unless Outcome (refusal 15 0) (TwoNodes n a b)
+    Unless Outcome (refusal 13 0 0) (length marks ≡ n - 1)
+    (Unless Outcome (refusal 15 0 0) (TwoNodes n a b)
     (Shows s marks n a b))
 
 abbrev pub PairOf : List ℕ → List ℕ → ℕ → ℕ → Outcome → Type 0

@@ -10,8 +10,8 @@ ghost use Rattle.answers.specs.PathOf.{PathOf};
 use crate::ground::grounded;
 use limits::Limit;
 use lists::Best;
-use table::Refusal;
 use tree::Acceptance;
+use tree::Refusal;
 
 // What heaviest gives: the two nodes, lower first, with the length and the weight of their path; or why not.
 pub enum Run {
@@ -57,13 +57,18 @@ fn choose(s: &[u8], marks: &[u16], nodes: u16, limit: Limit, none: u8) -> Run
 {
     let n = arrays::wide(nodes);
     if marks.len() != n - 1 {
-        return Run::Refused(Refusal { number: 13, row: 0 });
+        return Run::Refused(Refusal {
+            number: 13,
+            row: 0,
+            ring: 0,
+        });
     }
     let b = search(s, marks, nodes, limit);
     if b.weight == 0 {
         return Run::Refused(Refusal {
             number: none,
             row: 0,
+            ring: 0,
         });
     }
     let low = b.low as u16;

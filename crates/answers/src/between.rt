@@ -7,8 +7,8 @@ ghost use Rattle.paths.specs.Paths.{Begun};
 ghost use Rattle.answers.specs.Pair.{outcome, Shows, Measures, PairOf};
 ghost use Rattle.answers.specs.Work.{WayOf};
 use crate::ground::grounded;
-use table::Refusal;
 use tree::Acceptance;
+use tree::Refusal;
 
 // What pair gives: length, weight and hops, or why not.
 pub enum PairAnswer {
@@ -34,16 +34,32 @@ fn measure(s: &[u8], marks: &[u16], nodes: u16, a: u16, b: u16) -> PairAnswer
 {
     let n = arrays::wide(nodes);
     if marks.len() != n - 1 {
-        return PairAnswer::Refused(Refusal { number: 13, row: 0 });
+        return PairAnswer::Refused(Refusal {
+            number: 13,
+            row: 0,
+            ring: 0,
+        });
     }
     if nodes <= a {
-        return PairAnswer::Refused(Refusal { number: 15, row: 0 });
+        return PairAnswer::Refused(Refusal {
+            number: 15,
+            row: 0,
+            ring: 0,
+        });
     }
     if nodes <= b {
-        return PairAnswer::Refused(Refusal { number: 15, row: 0 });
+        return PairAnswer::Refused(Refusal {
+            number: 15,
+            row: 0,
+            ring: 0,
+        });
     }
     if a == b {
-        return PairAnswer::Refused(Refusal { number: 15, row: 0 });
+        return PairAnswer::Refused(Refusal {
+            number: 15,
+            row: 0,
+            ring: 0,
+        });
     }
     show(s, marks, nodes, a, b)
 }

@@ -14,8 +14,8 @@ ghost use Rattle.tree.specs.Net.{Net};
 ghost use Rattle.limits.specs.Fits.{Within, Fits};
 ghost use Rattle.answers.specs.Listing.{outcome, Goes, ListingWithin, ListingOf, ListingExactOf};
 use limits::Limit;
-use table::Refusal;
 use tree::Acceptance;
+use tree::Refusal;
 
 // What a listing gives: the rows written and the rows left over, or why not.
 pub enum Listed {
@@ -91,10 +91,18 @@ fn go_on(
 {
     let n = arrays::wide(nodes);
     if marks.len() != n - 1 {
-        return Listed::Refused(Refusal { number: 13, row: 0 });
+        return Listed::Refused(Refusal {
+            number: 13,
+            row: 0,
+            ring: 0,
+        });
     }
     if rows.len() < 16 {
-        return Listed::Refused(Refusal { number: 17, row: 0 });
+        return Listed::Refused(Refusal {
+            number: 17,
+            row: 0,
+            ring: 0,
+        });
     }
     let k = scan::page(s, marks, nodes, limit, floor, low, high, rows);
     let written = k.given;

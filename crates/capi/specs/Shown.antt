@@ -3,8 +3,7 @@
 use Prim.Native.Nat.{ℕ}
 use mathlib.Core.List.{List, []}
 use lib.IntN.{ℤ, pos}
-use Rattle.table.specs.Outcome as T
-use Rattle.tree.specs.Accept.{Accepts}
+use Rattle.tree.specs.Accept.{Outcome, Accepts}
 use Rattle.spines.specs.Heads as H
 use Rattle.marks.specs.Change as M
 use Rattle.marks.specs.Claim.{Claims}
@@ -14,29 +13,36 @@ use Rattle.answers.specs.Listing as L
 use Rattle.capi.specs.Call.{eight, Call, call, Shows}
 
 -- nodes, bound
-abbrev pub acceptance : T.Outcome → Call
-acceptance o = call (o .number) (eight (o .number) (o .row) (pos (o .nodes)) (pos (o .bound)) (pos 0) (pos 0)) []
+abbrev pub acceptance : Outcome → Call
+acceptance o =
+    call (o .number) (eight (o .number) (o .row) (o .ring) (pos (o .nodes)) (pos (o .bound)) (pos 0) (pos 0)) []
 
 -- length, weight, hops
 abbrev pub pair : P.Outcome → Call
-pair o = call (o .number) (eight (o .number) (o .row) (pos (o .length)) (o .weight) (pos (o .hops)) (pos 0)) []
+pair o =
+    call (o .number) (eight (o .number) (o .row) (o .ring) (pos (o .length)) (o .weight) (pos (o .hops)) (pos 0)) []
 
 -- low, high, length, weight
 abbrev pub heaviest : B.Outcome → Call
 heaviest o =
-    call (o .number) (eight (o .number) (o .row) (pos (o .low)) (pos (o .high)) (pos (o .length)) (o .weight)) []
+    call (o .number) (eight (o .number) (o .row) (o .ring) (pos (o .low)) (pos (o .high)) (pos (o .length)) (o .weight))
+    []
 
 -- no fields; the heads
 abbrev pub heads : H.Outcome → Call
-heads o = call (o .number) (eight (o .number) (o .row) (pos 0) (pos 0) (pos 0) (pos 0)) (o .list)
+heads o =
+    call (o .number) (eight (o .number) (o .row) (o .ring) (pos 0) (pos 0) (pos 0) (pos 0)) (o .list)
 
 -- written, left; the rows
 abbrev pub listing : L.Outcome → Call
-listing o = call (o .number) (eight (o .number) (o .row) (pos (o .written)) (pos (o .left)) (pos 0) (pos 0)) (o .bytes)
+listing o =
+    call (o .number) (eight (o .number) (o .row) (o .ring) (pos (o .written)) (pos (o .left)) (pos 0) (pos 0))
+    (o .bytes)
 
 -- how many changed; the marks
 abbrev pub change : M.Outcome → Call
-change o = call (o .number) (eight (o .number) (o .row) (pos (o .count)) (pos 0) (pos 0) (pos 0)) (o .marks)
+change o =
+    call (o .number) (eight (o .number) (o .row) (o .ring) (pos (o .count)) (pos 0) (pos 0) (pos 0)) (o .marks)
 
 abbrev pub AcceptCall : List ℕ → Call → Type 0
 AcceptCall s = Shows (Accepts s) acceptance

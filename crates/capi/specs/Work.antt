@@ -1,9 +1,14 @@
--- Working statement of the private function that shows a page, and no part of the promises.
-use Prim.Native.Nat.{ℕ, _+_, _<_}
+-- Working statements of the private functions that write an answer, and no part of the promises: what it has room for.
+use Prim.Native.Nat.{ℕ, _+_, _≤_, _<_}
 use mathlib.Core.Path.{_≡_}
 use Rattle.answers.specs.Listing.{Outcome}
 
--- what a C answer has room for: a row below 4,096, and counts of 63 bits
+-- a row below 4,096, and a ring of no more rows than that
+pub record Room (row ring : ℕ) : Type 0 where
+  pub low : row < 4096
+  pub few : ring ≤ 4096
+
+-- of a listing also counts of 63 bits
 pub record Storable (o : Outcome) : Type 0 where
-  pub row : o .row < 4096
+  pub room : Room (o .row) (o .ring)
   pub counts : o .number ≡ 0 → o .written + o .left < 9223372036854775808

@@ -6,6 +6,7 @@ ghost use Prim.Native.Nat.{ℕ, _<_};
 ghost use Rattle.marks.specs.Change.{outcome};
 ghost use Rattle.capi.specs.Call.{eight, call};
 ghost use Rattle.capi.specs.Shown.{change};
+ghost use Rattle.capi.specs.Work.{Room};
 use marks::Change;
 
 // A number that is not negative, as a signed one.
@@ -21,30 +22,32 @@ pub(crate) fn fill(
     answer: &mut [i64; 8],
     number: u8,
     row: usize,
+    ring: usize,
     f0: i64,
     f1: i64,
     f2: i64,
     f3: i64,
 ) -> u8
-    requires { ⌜ row < 4096 ⌝ }
-    ensures { λ r. ⌜ (r ≡ number) × (now (answer .exit) ≡ eight number row f0 f1 f2 f3) ⌝ }
+    requires { ⌜ Room row ring ⌝ }
+    ensures { λ r. ⌜ (r ≡ number) × (now (answer .exit) ≡ eight number row ring f0 f1 f2 f3) ⌝ }
 {
     let k = signed(number as u64);
     let r = signed(row as u64);
-    *answer = [k, r, 0, f0, f1, f2, f3, 0];
+    let g = signed(ring as u64);
+    *answer = [k, r, g, f0, f1, f2, f3, 0];
     return number;
 }
 
 // What claim, commit or abort gave: the refusal, or how many marks changed.
 pub(crate) fn show_change(o: Change, answer: &mut [i64; 8]) -> u8
-    requires { ⌜ ((marks : List ℕ) × ((outcome o marks) .row < 4096)) ⌝ }
+    requires { ⌜ ((marks : List ℕ) × Room ((outcome o marks) .row) ((outcome o marks) .ring)) ⌝ }
     ensures { λ r. ⌜ ((marks : List ℕ) → call r (now (answer .exit)) marks ≡ change (outcome o marks)) ⌝ }
 {
     match o {
-        Change::Refused(why) => fill(answer, why.number, why.row, 0, 0, 0, 0),
+        Change::Refused(why) => fill(answer, why.number, why.row, why.ring, 0, 0, 0, 0),
         Change::Changed(count) => {
             let k = signed(count as u64);
-            fill(answer, 0, 0, k, 0, 0, 0)
+            fill(answer, 0, 0, 0, k, 0, 0, 0)
         }
     }
 }

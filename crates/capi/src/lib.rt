@@ -1,6 +1,6 @@
 // The operations for C and Rust; include/hourbench.h declares them. A `&[u8]` is a pointer and a length to C, an `&mut
-// [i64; 8]` a pointer. Each function returns the refusal number (0: none) and writes all 8 of `answer`: number, row, 0
-// (reserved), the operation's fields in order, zeros.
+// [i64; 8]` a pointer. Each function returns the refusal number (0: none) and writes all 8 of `answer`: number, row,
+// ring, the operation's fields in order, zeros.
 mod answer;
 mod shown;
 
@@ -34,11 +34,11 @@ pub extern "C" fn hb_accept(table: &[u8], answer: &mut [i64; 8]) -> u8
 {
     let o = tree::accept(table);
     match o {
-        Acceptance::Refused(why) => fill(answer, why.number, why.row, 0, 0, 0, 0),
+        Acceptance::Refused(why) => fill(answer, why.number, why.row, why.ring, 0, 0, 0, 0),
         Acceptance::Accepted { nodes, bound } => {
             let n = signed(nodes as u64);
             let b = signed(bound as u64);
-            fill(answer, 0, 0, n, b, 0, 0)
+            fill(answer, 0, 0, 0, n, b, 0, 0)
         }
     }
 }
@@ -50,7 +50,7 @@ pub extern "C" fn hb_pair(table: &[u8], marks: &[u16], a: u16, b: u16, answer: &
 {
     let o = answers::pair(table, marks, a, b);
     match o {
-        PairAnswer::Refused(why) => fill(answer, why.number, why.row, 0, 0, 0, 0),
+        PairAnswer::Refused(why) => fill(answer, why.number, why.row, why.ring, 0, 0, 0, 0),
         PairAnswer::Found {
             length,
             weight,
@@ -58,7 +58,7 @@ pub extern "C" fn hb_pair(table: &[u8], marks: &[u16], a: u16, b: u16, answer: &
         } => {
             let l = signed(length as u64);
             let h = signed(hops as u64);
-            fill(answer, 0, 0, l, weight, h, 0)
+            fill(answer, 0, 0, 0, l, weight, h, 0)
         }
     }
 }
@@ -89,8 +89,8 @@ pub extern "C" fn hb_heads(table: &[u8], heads: &mut [u16], answer: &mut [i64; 8
 {
     let o = spines::heads(table, heads);
     match o {
-        HeadsAnswer::Refused(why) => fill(answer, why.number, why.row, 0, 0, 0, 0),
-        HeadsAnswer::Written => fill(answer, 0, 0, 0, 0, 0, 0),
+        HeadsAnswer::Refused(why) => fill(answer, why.number, why.row, why.ring, 0, 0, 0, 0),
+        HeadsAnswer::Written => fill(answer, 0, 0, 0, 0, 0, 0, 0),
     }
 }
 

@@ -1,19 +1,30 @@
 -- How long the lines are: 20 bytes at most for each number, and the words.
 use Prim.Native.Nat.{ℕ, _+_, _*_, _≤_, _<_}
-use mathlib.Core.Path.{refl}
+use mathlib.Core.Path.{_≡_, refl}
 use mathlib.Core.List.{List, [], _∷_}
 use native.Mathlib.Omega.{arith}
+use native.Mathlib.Decide.{ℕ-discrete}
 use lib.ListN.{length, length-append}
 use Rattle.pages.specs.Listing.{Entry, In, at, past}
 use Rattle.pages.specs.Bytes.{RowFits}
 use Rattle.text.specs.Word.{word}
 use Rattle.text.specs.Decimal.{decimal, signed}
 use Rattle.text.proofs.Decimals.{decimal-few, signed-few}
-use Rattle.lines.specs.Lines.{refusedText, netText, bestText, pairText, pairsText, totalText}
+use Rattle.lines.specs.Lines.{ringText, refusedText, netText, bestText, pairText, pairsText, totalText}
+use Rattle.lines.proofs.Told.{ring-told, none-told}
 
-pub refused-few : (k r : ℕ) → k < 18446744073709551616 → r < 18446744073709551616 → length (refusedText k r) ≤ 128
+ring-few : (k g : ℕ) → g < 18446744073709551616 → length (ringText k g) ≤ 26
+unfolding word
+ring-few k g h = pick (ℕ-discrete k 11)
+  where
+    pick : Dec (k ≡ 11) → length (ringText k g) ≤ 26
+    pick (yes e) = rw (ring-told g e) (simp length-append (omega (arith, decimal-few g h)))
+    pick (no n) = rw (none-told g n) (omega arith)
+
+pub refused-few : (k r g : ℕ) → k < 18446744073709551616 → r < 18446744073709551616 → g < 18446744073709551616
+    → length (refusedText k r g) ≤ 128
 unfolding refusedText word
-refused-few k r h j = simp length-append (omega (arith, decimal-few k h, decimal-few r j))
+refused-few k r g h j i = simp length-append (omega (arith, decimal-few k h, decimal-few r j, ring-few k g i))
 
 pub net-few : (n b : ℕ) → n < 18446744073709551616 → b < 18446744073709551616 → length (netText n b) ≤ 128
 unfolding netText word

@@ -1,7 +1,8 @@
--- The report's lines as text, each as document 01 prints it.
+-- The report's lines as text, each as the documents print it.
 use Prim.Native.Nat.{ℕ}
 use Prim.Native.String.{String}
 use mathlib.Core.List.{List, [], _∷_, _++_}
+use native.Mathlib.Decide.{ℕ-discrete}
 use lib.IntN.{ℤ}
 use Rattle.text.specs.Word.{word}
 use Rattle.text.specs.Decimal.{decimal, signed}
@@ -14,9 +15,12 @@ field w x = word w ++ decimal x
 abbrev pub signedField : String → ℤ → List ℕ
 signedField w z = word w ++ signed z
 
--- `refused 11 row 1`
-unfoldable pub refusedText : ℕ → ℕ → List ℕ
-refusedText k r = field "refused " k ++ field " row " r ++ word "\n"
+-- `refused 16 row 0`, and for 11 alone how many rows the ring has: `refused 11 row 1 ring 2`
+unfoldable pub ringText : ℕ → ℕ → List ℕ
+ringText k g = elim (ℕ-discrete k 11) [ yes e ↦ field " ring " g | no n ↦ [] ]
+
+unfoldable pub refusedText : ℕ → ℕ → ℕ → List ℕ
+refusedText k r g = field "refused " k ++ field " row " r ++ ringText k g ++ word "\n"
 
 -- `net 5 bound 8`
 unfoldable pub netText : ℕ → ℕ → List ℕ

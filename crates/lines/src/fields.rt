@@ -29,16 +29,15 @@ fn weight(out: &mut [u8], at: usize, word: &[u8], bits: u64) -> usize
     text::put_bits(out, a, bits)
 }
 
-// A line of two words, each with its number.
+// A line's first two words, each with its number.
 pub(crate) fn two_fields(out: &mut [u8], word: &[u8], x: u64, other: &[u8], y: u64) -> usize
-    requires { ⌜ length (now word) + length (now other) + 41 ≤ length (now out) ⌝ }
-    ensures { λ r. ⌜ Put (now (out .entry)) 0
-        (now (word .entry) ++ decimal x ++ (now (other .entry) ++ decimal y) ++ 10 ∷ []) (now (out .exit)) r
-        × (r ≤ length (now (word .entry)) + length (now (other .entry)) + 41) ⌝ }
+    requires { ⌜ length (now word) + length (now other) + 40 ≤ length (now out) ⌝ }
+    ensures { λ r. ⌜ Put (now (out .entry)) 0 (now (word .entry) ++ decimal x ++ (now (other .entry) ++ decimal y))
+        (now (out .exit)) r
+        × (r ≤ length (now (word .entry)) + length (now (other .entry)) + 40) ⌝ }
 {
     let a = field(out, 0, word, x);
-    let b = field(out, a, other, y);
-    text::put_byte(out, b, LINE_END)
+    field(out, a, other, y)
 }
 
 // A line of two nodes, a length and a weight, a space between the nodes.

@@ -11,7 +11,7 @@ ghost use mir.Val.{toZ};
 ghost use Rattle.pages.specs.Listing.{entry};
 ghost use Rattle.pages.specs.Bytes.{entryAt, entries};
 ghost use Rattle.text.specs.Put.{Put};
-ghost use Rattle.lines.specs.Lines.{refusedText, netText, bestText, pairText, pairsText, totalText};
+ghost use Rattle.lines.specs.Lines.{ringText, refusedText, netText, bestText, pairText, pairsText, totalText};
 use fields::LINE_END;
 use fields::field;
 use fields::four_fields;
@@ -20,12 +20,25 @@ use numbers::eight;
 use numbers::four;
 use numbers::two;
 
-// `refused 11 row 1`
-pub fn refused(out: &mut [u8], number: u64, row: u64) -> usize
-    requires { ⌜ 128 ≤ length (now out) ⌝ }
-    ensures { λ r. ⌜ Put (now (out .entry)) 0 (refusedText number row) (now (out .exit)) r × (r ≤ 128) ⌝ }
+// ` ring 2`, for 11 alone
+fn ring(out: &mut [u8], at: usize, number: u64, rows: u64) -> usize
+    requires { ⌜ at + 26 ≤ length (now out) ⌝ }
+    ensures { λ r. ⌜ Put (now (out .entry)) at (ringText number rows) (now (out .exit)) r × (r ≤ at + 26) ⌝ }
 {
-    two_fields(out, b"refused ", number, b" row ", row)
+    if number == 11 {
+        return field(out, at, b" ring ", rows);
+    }
+    at
+}
+
+// `refused 16 row 0`, `refused 11 row 1 ring 2`
+pub fn refused(out: &mut [u8], number: u64, row: u64, rows: u64) -> usize
+    requires { ⌜ 128 ≤ length (now out) ⌝ }
+    ensures { λ r. ⌜ Put (now (out .entry)) 0 (refusedText number row rows) (now (out .exit)) r × (r ≤ 128) ⌝ }
+{
+    let a = two_fields(out, b"refused ", number, b" row ", row);
+    let b = ring(out, a, number, rows);
+    text::put_byte(out, b, LINE_END)
 }
 
 // `net 5 bound 8`
@@ -33,7 +46,8 @@ fn net(out: &mut [u8], nodes: u64, bound: u64) -> usize
     requires { ⌜ 128 ≤ length (now out) ⌝ }
     ensures { λ r. ⌜ Put (now (out .entry)) 0 (netText nodes bound) (now (out .exit)) r × (r ≤ 128) ⌝ }
 {
-    two_fields(out, b"net ", nodes, b" bound ", bound)
+    let a = two_fields(out, b"net ", nodes, b" bound ", bound);
+    text::put_byte(out, a, LINE_END)
 }
 
 // `best 1 3 length 6 weight 7`, the weight by its 64 bits

@@ -67,11 +67,11 @@ module _ {s : List ℕ} {n : ℕ} {parent half place : List ℕ} (N : Net s n) (
     frees : Frees before (ups .rows) + Frees before (downs .rows) ≡ k + k′
     frees = omega (arith, ups .frees, downs .frees)
 
-    pub too-long : {bound : ℕ} → bound < l + l′ → Ended s n bound before run a b (refusal before 18 0)
+    pub too-long : {bound : ℕ} → bound < l + l′ → Ended s n bound before run a b (refusal before 18 0 0)
     too-long h = refused (λ i. omega (arith, in-reach N (whole .path) i, long))
 
     module _ {bound : ℕ} (near : l + l′ ≤ bound) where
-      pub all-marked : k + k′ ≡ 0 → Ended s n bound before run a b (refusal before 19 0)
+      pub all-marked : k + k′ ≡ 0 → Ended s n bound before run a b (refusal before 19 0 0)
       all-marked z =
           passed (record { rows = whole .rows; path = whole .path; short = omega (arith, long) })
           (refused (none-free N before whole (frees ∙ z)))

@@ -36,4 +36,5 @@ change-one (Changed k) (Refused w) l m e =
 change-one (Refused w) (Changed k) l m e =
     let f : _≡_ {A = ℕ} 1 0 = ap (λ (o : Outcome). cond (o .refused) 1 0) e in
     absurd (omega (arith, f))
-change-one (Refused w) (Refused v) l m e = λ i. Refused (record { number = e i .number; row = e i .row })
+change-one (Refused w) (Refused v) l m e =
+    λ i. Refused (record { number = e i .number; row = e i .row; ring = e i .ring })

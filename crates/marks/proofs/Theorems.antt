@@ -10,9 +10,8 @@ use native.Mathlib.Omega.{arith}
 use lib.Seq.{ext-getD}
 use Rattle.arrays.specs.Filled.{at}
 use Rattle.table.specs.Header.{nodesOf}
-use Rattle.table.proofs.Refusals.{past, unless-map, first-bad-map}
-use Rattle.table.proofs.Accepted.{tested-map}
-use Rattle.tree.proofs.Begins.{begins-past}
+use Rattle.table.proofs.Refusals.{past, unless-map}
+use Rattle.tree.proofs.Begins.{begins-past, begins-map}
 use Rattle.tree.proofs.Counts.{count-none, count-unique}
 use Rattle.marks.specs.Mark.{free, spent, Free, HeldBy, RunNumber}
 use Rattle.marks.specs.Change.{Outcome, refusal, Changes, Settles, Commits, Aborts}
@@ -23,17 +22,17 @@ use Rattle.marks.proofs.Either.{nodes-flip, unless-alike, ended-flip}
 abbrev Good : Outcome → Type 0
 Good o = o .number ≡ 0
 
-plain : (before : List ℕ) {o : Outcome} → Good o → (k r : ℕ) → (k ≡ 0 → ⊥) → refusal before k r ≡ o → ⊥
-plain before good k r n e = n (ap (λ (x : Outcome). x .number) e ∙ good)
+plain : (before : List ℕ) {o : Outcome} → Good o → (k r g : ℕ) → (k ≡ 0 → ⊥) → refusal before k r g ≡ o → ⊥
+plain before good k r g n e = n (ap (λ (x : Outcome). x .number) e ∙ good)
 
 module _ (s before : List ℕ) {o : Outcome} (good : Good o) where
   -- a commit or an abort that is not refused: a run's number, and what it holds, no more and no less, has the new mark
   settled : {m run : ℕ} → Settles m s before run o
       → RunNumber run × Changes (λ r. HeldBy run (at before r)) m before (o .marks) (o .count)
   settled p =
-      let a = past (plain before good 13 0 (λ e. omega (arith, e)))
+      let a = past (plain before good 13 0 0 (λ e. omega (arith, e)))
       (begins-past (refusal before) s (plain before good) p .1) in
-      let b = past (plain before good 14 0 (λ e. omega (arith, e))) (a .1) in
+      let b = past (plain before good 14 0 0 (λ e. omega (arith, e))) (a .1) in
       (b .0, b .1 .marks)
 
   pub committed : {run : ℕ} → Commits s before run o
@@ -48,12 +47,12 @@ module _ (s before : List ℕ) {o : Outcome} (good : Good o) where
   pub claimed : {run a b : ℕ} → Claims s before run a b o
       → RunNumber run × Changes (Taken s before (nodesOf s) a b) run before (o .marks) (o .count)
   claimed p =
-      let x = past (plain before good 13 0 (λ e. omega (arith, e)))
+      let x = past (plain before good 13 0 0 (λ e. omega (arith, e)))
       (begins-past (refusal before) s (plain before good) p .1) in
-      let y = past (plain before good 14 0 (λ e. omega (arith, e))) (x .1) in
-      let z = past (plain before good 15 0 (λ e. omega (arith, e))) (y .1) in
-      let u = past (plain before good 18 0 (λ e. omega (arith, e))) (z .1) in
-      let v = past (plain before good 19 0 (λ e. omega (arith, e))) (u .1) in
+      let y = past (plain before good 14 0 0 (λ e. omega (arith, e))) (x .1) in
+      let z = past (plain before good 15 0 0 (λ e. omega (arith, e))) (y .1) in
+      let u = past (plain before good 18 0 0 (λ e. omega (arith, e))) (z .1) in
+      let v = past (plain before good 19 0 0 (λ e. omega (arith, e))) (u .1) in
       (y .0, v .1 .marks)
 
   -- A CLAIM NEVER TOUCHES A MARK THAT WAS NOT FREE
@@ -65,8 +64,8 @@ module _ (s before : List ℕ) {o : Outcome} (good : Good o) where
 pub claim-either : (s before : List ℕ) {run a b : ℕ} {o : Outcome} → Claims s before run a b o
     → Claims s before run b a o
 claim-either s before p =
-    tested-map (λ o. o) (refusal before) s (λ _. first-bad-map (λ o. o) (λ _. unless-map (λ o. o) (λ _.
-    unless-map (λ o. o) (λ _. unless-map (λ o. o) (λ _. unless-alike nodes-flip nodes-flip ended-flip))))) p
+    begins-map (refusal before) s
+    (λ _. unless-map (λ o. o) (λ _. unless-map (λ o. o) (λ _. unless-alike nodes-flip nodes-flip ended-flip))) p
 
 -- AFTER CLAIM THEN ABORT of a run that held nothing before, the marks are as they were
 pub claim-abort : (s before : List ℕ) {run a b : ℕ} {o q : Outcome} → Good o → Good q

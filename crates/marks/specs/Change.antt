@@ -1,5 +1,5 @@
--- What claim, commit and abort leave: whether they were refused, with number and row, how many marks changed, and the
--- lent marks. And what commit and abort promise.
+-- What claim, commit and abort leave: whether they were refused, with number, row and ring, how many marks changed, and
+-- the lent marks. And what commit and abort promise.
 use mathlib.Core.Path.{_≡_}
 use mathlib.Core.Bool.{Bool, true, false}
 use mathlib.Core.List.{List}
@@ -18,20 +18,21 @@ pub record Outcome : Type 0 where
   pub refused : Bool
   pub number : ℕ
   pub row : ℕ
+  pub ring : ℕ
   pub count : ℕ
   pub marks : List ℕ
 
--- a refusal: number and row, and the marks as they were
-abbrev pub refusal : List ℕ → ℕ → ℕ → Outcome
-refusal before k r = record { refused = true; number = k; row = r; count = 0; marks = before }
+-- a refusal: number, row and ring, and the marks as they were
+abbrev pub refusal : List ℕ → ℕ → ℕ → ℕ → Outcome
+refusal before k r g = record { refused = true; number = k; row = r; ring = g; count = 0; marks = before }
 
 -- nothing is refused, and k marks changed
 abbrev pub changed : List ℕ → ℕ → Outcome
-changed after k = record { refused = false; number = 0; row = 0; count = k; marks = after }
+changed after k = record { refused = false; number = 0; row = 0; ring = 0; count = k; marks = after }
 
 abbrev pub outcome : Change → List ℕ → Outcome
 outcome (Changed k) after = changed after k
-outcome (Refused w) after = refusal after (w .number) (w .row)
+outcome (Refused w) after = refusal after (w .number) (w .row) (w .ring)
 
 -- each mark at a place of P becomes m, no other mark changes, and k is how many places P has
 pub record Changes (P : ℕ → Type 0) (m : ℕ) (before after : List ℕ) (k : ℕ) : Type 0 where
@@ -48,8 +49,8 @@ pub record Done (P : ℕ → Type 0) (m : ℕ) (before : List ℕ) (o : Outcome)
 -- 13 and 14, of a net of n nodes: one mark for each branch, and a run's number; then as the rest says
 abbrev pub Numbered : ℕ → List ℕ → ℕ → (Outcome → Type 0) → Outcome → Type 0
 Numbered n before run rest =
-    Unless Outcome (refusal before 13 0) (length before ≡ n - 1)
-    (Unless Outcome (refusal before 14 0) (RunNumber run)
+    Unless Outcome (refusal before 13 0 0) (length before ≡ n - 1)
+    (Unless Outcome (refusal before 14 0 0) (RunNumber run)
     rest)
 
 -- each branch held by the run becomes m

@@ -11,7 +11,7 @@ ghost use Rattle.marks.specs.Work.{one-free, Climb, ShortRows, Measured,
 use crate::Change;
 use crate::FREE;
 use crate::SPENT;
-use table::Refusal;
+use tree::Refusal;
 
 // A climb's wire length, and how many of its branches are free.
 struct Rising {
@@ -112,11 +112,19 @@ fn claim_path(
     let ups = measure(table, marks, parent, half, place, x, t);
     let downs = measure(table, marks, parent, half, place, y, t);
     if arrays::long(bound) < ups.length + downs.length {
-        return Change::Refused(Refusal { number: 18, row: 0 });
+        return Change::Refused(Refusal {
+            number: 18,
+            row: 0,
+            ring: 0,
+        });
     }
     let free = ups.free + downs.free;
     if free == 0 {
-        return Change::Refused(Refusal { number: 19, row: 0 });
+        return Change::Refused(Refusal {
+            number: 19,
+            row: 0,
+            ring: 0,
+        });
     }
     hold(marks, parent, half, place, x, t, run);
     hold(marks, parent, half, place, y, t, run);
@@ -170,22 +178,46 @@ pub(crate) fn claim_pair(
         (outcome r (now (marks .exit))) ⌝ }
 {
     if marks.len() + 1 != arrays::wide(nodes) {
-        return Change::Refused(Refusal { number: 13, row: 0 });
+        return Change::Refused(Refusal {
+            number: 13,
+            row: 0,
+            ring: 0,
+        });
     }
     if run == FREE {
-        return Change::Refused(Refusal { number: 14, row: 0 });
+        return Change::Refused(Refusal {
+            number: 14,
+            row: 0,
+            ring: 0,
+        });
     }
     if run == SPENT {
-        return Change::Refused(Refusal { number: 14, row: 0 });
+        return Change::Refused(Refusal {
+            number: 14,
+            row: 0,
+            ring: 0,
+        });
     }
     if nodes <= a {
-        return Change::Refused(Refusal { number: 15, row: 0 });
+        return Change::Refused(Refusal {
+            number: 15,
+            row: 0,
+            ring: 0,
+        });
     }
     if nodes <= b {
-        return Change::Refused(Refusal { number: 15, row: 0 });
+        return Change::Refused(Refusal {
+            number: 15,
+            row: 0,
+            ring: 0,
+        });
     }
     if a == b {
-        return Change::Refused(Refusal { number: 15, row: 0 });
+        return Change::Refused(Refusal {
+            number: 15,
+            row: 0,
+            ring: 0,
+        });
     }
     claim_walked(table, marks, nodes, bound, run, a, b)
 }

@@ -6,8 +6,8 @@ ghost use Rattle.marks.specs.Change.{outcome, Commits, Aborts};
 ghost use Rattle.marks.specs.Claim.{Claims};
 use crate::along::claim_pair;
 use crate::settle::settle;
-use table::Refusal;
 use tree::Acceptance;
+use tree::Refusal;
 
 mod along;
 mod settle;

@@ -7,7 +7,7 @@ use answers::Run;
 use libc::STDOUT_FILENO;
 use marks::Change;
 use spines::HeadsAnswer;
-use table::Refusal;
+use tree::Refusal;
 
 // Five nodes: 0-1 of length 4 and weight 5; 1-2 of 3 and 2; 1-3 of 6 and 7; 3-4 of 2 and -3.
 fn net(bound: u8) -> [u8; 60] {
@@ -143,6 +143,7 @@ fn refused(why: Refusal) {
     say(b" refused");
     number(why.number as u64);
     number(why.row as u64);
+    number(why.ring as u64);
 }
 
 fn end() {

@@ -5,8 +5,7 @@ use mathlib.Core.List.{List, [], _++_, append-nil}
 use native.Mathlib.Omega.{arith}
 use lib.ListN.{length, take, drop}
 use lib.Seq.{take-at, drop-at}
-use Rattle.table.specs.Outcome.{Outcome, found as accepted, refusal as not-accepted}
-use Rattle.tree.specs.Accept.{Accepts}
+use Rattle.tree.specs.Accept.{Outcome, found as accepted, refusal as not-accepted, Accepts}
 use Rattle.tree.proofs.Begins.{admitted, accept-only}
 use Rattle.pages.specs.Listing.{Entry, Listing}
 use Rattle.pages.proofs.Listings.{listing-only}
@@ -18,15 +17,15 @@ use Rattle.reporting.specs.Report.{allFree, Weighing, ReportOf, refused,
 use Rattle.reporting.proofs.Whole.{best-run, entry-of}
 
 module _ (s : List ℕ) where
-  not-both : {n b k r : ℕ} → Accepts s (accepted n b) → Accepts s (not-accepted k r) → ⊥
+  not-both : {n b k r g : ℕ} → Accepts s (accepted n b) → Accepts s (not-accepted k r g) → ⊥
   not-both {n} {b} a p =
       omega (arith, admitted s n b a .net .some, ap (λ (o : Outcome). o .nodes) (accept-only s _ _ a p))
 
   same-net : {n b m c : ℕ} → Accepts s (accepted n b) → Accepts s (accepted m c) → (n ≡ m) × (b ≡ c)
   same-net a p = let e = accept-only s _ _ a p in (ap (λ (o : Outcome). o .nodes) e, ap (λ (o : Outcome). o .bound) e)
 
-  no-run : (marks : List ℕ) {e : Entry} {k r : ℕ} → HeaviestOf s marks (heaviest.found e)
-      → HeaviestOf s marks (heaviest.refusal k r) → ⊥
+  no-run : (marks : List ℕ) {e : Entry} {k r g : ℕ} → HeaviestOf s marks (heaviest.found e)
+      → HeaviestOf s marks (heaviest.refusal k r g) → ⊥
   no-run marks {e} p q =
       omega (
         arith,
@@ -34,8 +33,8 @@ module _ (s : List ℕ) where
         ap (λ (o : heaviest.Outcome). o .high) (heaviest-only s marks _ _ p q),
       )
 
-  one-refusal : {k r j q : ℕ} → k ≡ j → r ≡ q → refusedText k r ≡ refusedText j q
-  one-refusal e f = rw (e, f)
+  one-refusal : {k r g j q i : ℕ} → k ≡ j → r ≡ q → g ≡ i → refusedText k r g ≡ refusedText j q i
+  one-refusal e f h = rw (e, f, h)
 
   with-marks : {n m : ℕ} {o : heaviest.Outcome} → n ≡ m → HeaviestOf s (allFree m) o → HeaviestOf s (allFree n) o
   with-marks e p = rw e p
@@ -56,13 +55,14 @@ module _ (s : List ℕ) where
   pub report-only : {t u : List ℕ} → ReportOf s t → ReportOf s u → t ≡ u
   report-only (refused p) (refused q) =
       let e = accept-only s _ _ p q in
-      one-refusal (ap (λ (o : Outcome). o .number) e) (ap (λ (o : Outcome). o .row) e)
+      one-refusal (ap (λ (o : Outcome). o .number) e) (ap (λ (o : Outcome). o .row) e) (ap (λ (o : Outcome). o .ring) e)
   report-only (refused p) (none a h) = absurd (not-both a p)
   report-only (refused p) (lines a h w) = absurd (not-both a p)
   report-only (none a h) (refused p) = absurd (not-both a p)
   report-only (none {n} a h) (none d k) =
       let e = heaviest-only s (allFree n) _ _ h (with-marks (same-net a d .0) k) in
       one-refusal (ap (λ (o : heaviest.Outcome). o .number) e) (ap (λ (o : heaviest.Outcome). o .row) e)
+      (ap (λ (o : heaviest.Outcome). o .ring) e)
   report-only (none {n} a h) (lines d k w) = absurd (no-run (allFree n) (with-marks (same-net a d .0) k) h)
   report-only (lines a h w) (refused p) = absurd (not-both a p)
   report-only (lines {n} a h w) (none d k) = absurd (no-run (allFree n) h (with-marks (same-net a d .0) k))

@@ -34,14 +34,14 @@ use Rattle.reporting.specs.Pieces.{Comes, Paging}
 use Rattle.reporting.proofs.Coming.{rest-as, comes-before, out-before}
 
 -- a call that is ready is answered by a page
-pub ready-taken : {s marks lent bytes : List ℕ} {floor : ℤ} {low high k r : ℕ} → Ready s marks lent
-    → ListingOf s marks floor low high lent (refusal bytes k r) → ⊥
+pub ready-taken : {s marks lent bytes : List ℕ} {floor : ℤ} {low high k r g : ℕ} → Ready s marks lent
+    → ListingOf s marks floor low high lent (refusal bytes k r g) → ⊥
 ready-taken {s} {marks} {floor = floor} r p =
     true≢false (answered _ s marks floor (r .accepted) (r .marked) (r .room) p .0)
 
 pub ready-asked : {s marks lent bytes : List ℕ} {floor : ℤ} {low high written left : ℕ} → Ready s marks lent
     → ListingOf s marks floor low high lent
-    (record { refused = false; number = 0; row = 0; written = written; left = left; bytes = bytes })
+    (record { refused = false; number = 0; row = 0; ring = 0; written = written; left = left; bytes = bytes })
     → Asked s marks floor low high bytes written left
 ready-asked {s} {marks} {lent} {bytes} {floor} {low} {high} {written} {left} r p =
     let n = listing-page _ s marks floor low high lent _ refl p in

@@ -10,8 +10,7 @@ use mir.Syntax.{w64}
 use mir.Val.{SFits, toZ, ofZ}
 use mir.ValLaws.{toZ-ofZ}
 use Rattle.table.specs.Header.{nodesOf, boundOf}
-use Rattle.table.specs.Outcome.{found as accepted, refusal as not-accepted}
-use Rattle.tree.specs.Accept.{Accepts}
+use Rattle.tree.specs.Accept.{found as accepted, refusal as not-accepted, Accepts}
 use Rattle.tree.proofs.Begins.{admitted}
 use Rattle.pages.specs.Listing.{Entry, entry, Listing}
 use Rattle.pages.specs.Passes.{Passes}
@@ -32,14 +31,15 @@ use Rattle.reporting.proofs.Coming.{rest-all, rest-as, comes-before, ou
 use Rattle.reporting.proofs.Paging.{paging-begin}
 
 -- one line: a refusal
-pub refused-rest : (s : List ℕ) (k r : ℕ) → k < 18446744073709551616 → r < 18446744073709551616
-    → Accepts s (not-accepted k r) → Rest s 0 (refusedText k r)
-refused-rest s k r h j p = rest-all (refused p) (omega (arith, refused-few k r h j))
+module _ (s : List ℕ) (k r g : ℕ) (kf : k < 18446744073709551616) (rf : r < 18446744073709551616)
+    (gf : g < 18446744073709551616) where
+  pub refused-rest : Accepts s (not-accepted k r g) → Rest s 0 (refusedText k r g)
+  refused-rest p = rest-all (refused p) (omega (arith, refused-few k r g kf rf gf))
 
-pub none-rest : (s marks : List ℕ) (n b k r : ℕ) → k < 18446744073709551616 → r < 18446744073709551616
-    → Accepts s (accepted n b) → marks ≡ allFree n → HeaviestOf s marks (heaviest.refusal k r)
-    → Rest s 0 (refusedText k r)
-none-rest s marks n b k r h j a e p = rest-all (none {n = n} {b = b} a (rw e at p)) (omega (arith, refused-few k r h j))
+  pub none-rest : (marks : List ℕ) (n b : ℕ) → Accepts s (accepted n b) → marks ≡ allFree n
+      → HeaviestOf s marks (heaviest.refusal k r g) → Rest s 0 (refusedText k r g)
+  none-rest marks n b a e p =
+      rest-all (none {n = n} {b = b} a (rw e at p)) (omega (arith, refused-few k r g kf rf gf))
 
 as-weighing : (s marks : List ℕ) (n b n₂ b₂ : ℕ) (e : Entry) {l : List Entry} → n ≡ n₂ → b ≡ b₂ → marks ≡ allFree n
     → Listing (Passes (PathOf s marks n₂) (λ l. l ≤ b₂) (λ w. w ≡ e .weight) n₂) l → Listing (Weighing s n b e) l

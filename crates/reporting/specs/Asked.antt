@@ -5,8 +5,7 @@ use mathlib.Core.List.{List}
 use lib.IntN.{ℤ}
 use lib.ListN.{length}
 use Rattle.table.specs.Header.{nodesOf, boundOf}
-use Rattle.table.specs.Outcome.{found as accepted}
-use Rattle.tree.specs.Accept.{Accepts}
+use Rattle.tree.specs.Accept.{found as accepted, Accepts}
 use Rattle.tree.specs.Net.{Net}
 use Rattle.pages.specs.Listing.{Entry}
 use Rattle.pages.specs.Passes.{Qualifies}

@@ -8,8 +8,7 @@ use lib.ListN.{length, take, replicate}
 use mir.Syntax.{w64}
 use mir.Val.{SFits}
 use Rattle.table.specs.Header.{nodesOf, boundOf}
-use Rattle.table.specs.Outcome.{found as accepted}
-use Rattle.tree.specs.Accept.{Accepts}
+use Rattle.tree.specs.Accept.{found as accepted, Accepts}
 use Rattle.marks.specs.Mark.{free}
 use Rattle.pages.specs.Listing.{Entry}
 use Rattle.pages.specs.Bytes.{entries}

@@ -3,8 +3,7 @@ use Prim.Native.Nat.{ℕ, _-_, _≤_, _<_}
 use mathlib.Core.Path.{_≡_}
 use mathlib.Core.List.{List, _++_}
 use lib.ListN.{length, replicate}
-use Rattle.table.specs.Outcome.{found as accepted, refusal as not-accepted}
-use Rattle.tree.specs.Accept.{Accepts}
+use Rattle.tree.specs.Accept.{found as accepted, refusal as not-accepted, Accepts}
 use Rattle.marks.specs.Mark.{free}
 use Rattle.pages.specs.Listing.{Entry, Listing}
 use Rattle.pages.specs.Passes.{Passes}
@@ -23,9 +22,9 @@ Weighing s n b e = Passes (PathOf s (allFree n) n) (λ l. l ≤ b) (λ w. w ≡ 
 -- t is the report of the table s: one line where acceptance or heaviest refuses; else node count and bound, the
 -- heaviest run, every pair of that weight within the bound in pair order, and their number
 pub data ReportOf (s : List ℕ) : List ℕ → Type 0 where
-  refused : {k r : ℕ} → Accepts s (not-accepted k r) → ReportOf s (refusedText k r)
-  none : {n b k r : ℕ} → Accepts s (accepted n b) → HeaviestOf s (allFree n) (refusal k r)
-      → ReportOf s (refusedText k r)
+  refused : {k r g : ℕ} → Accepts s (not-accepted k r g) → ReportOf s (refusedText k r g)
+  none : {n b k r g : ℕ} → Accepts s (accepted n b) → HeaviestOf s (allFree n) (refusal k r g)
+      → ReportOf s (refusedText k r g)
   lines : {n b : ℕ} {e : Entry} {l : List Entry} → Accepts s (accepted n b) → HeaviestOf s (allFree n) (found e)
       → Listing (Weighing s n b e) l → ReportOf s ((netText n b ++ bestText e) ++ (pairsText l ++ totalText (length l)))
 

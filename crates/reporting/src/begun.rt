@@ -2,8 +2,7 @@
 ghost use Prim.Native.Nat.{_≤_};
 ghost use mathlib.Core.Path.{_≡_};
 ghost use lib.ListN.{length};
-ghost use Rattle.table.specs.Outcome.{found as acceptedAs};
-ghost use Rattle.tree.specs.Accept.{Accepts};
+ghost use Rattle.tree.specs.Accept.{found as acceptedAs, Accepts};
 ghost use Rattle.pages.specs.Listing.{entry};
 ghost use Rattle.answers.specs.Heaviest.{HeaviestOf, found};
 ghost use Rattle.lines.specs.Lines.{refusedText};
@@ -13,14 +12,14 @@ use crate::Piece;
 use crate::last;
 use crate::listed::ask;
 use answers::Run;
-use table::Refusal;
 use tree::Acceptance;
+use tree::Refusal;
 
 fn refuse(table: &[u8], rows: &[u8], out: &mut [u8], why: Refusal) -> Piece
-    requires { ⌜ (65536 ≤ length (now out)) × Rest (now table) 0 (refusedText (why .number) (why .row)) ⌝ }
+    requires { ⌜ (65536 ≤ length (now out)) × Rest (now table) 0 (refusedText (why .number) (why .row) (why .ring)) ⌝ }
     ensures { λ r. ⌜ Shown (now (table .entry)) (now (rows .entry)) (now (out .exit)) r × (r .place ≡ 0) ⌝ }
 {
-    let n = lines::refused(out, why.number as u64, why.row as u64);
+    let n = lines::refused(out, why.number as u64, why.row as u64, why.ring as u64);
     last(n, 0)
 }
 

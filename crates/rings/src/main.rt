@@ -1,5 +1,5 @@
 // Runs acceptance on nets that look like trees: n − 1 rows are no tree by their number (slip 5 of document 01), and the
-// first closing row is named.
+// first closing row is named, with how many rows its ring has.
 ghost use Prim.Native.Nat.{_<_};
 use libc::STDOUT_FILENO;
 use tree::Acceptance;
@@ -11,6 +11,8 @@ fn say(a: Acceptance) {
             io::print_decimal(STDOUT_FILENO, why.number as u64);
             io::write_all(STDOUT_FILENO, b" row ");
             io::print_decimal(STDOUT_FILENO, why.row as u64);
+            io::write_all(STDOUT_FILENO, b" ring ");
+            io::print_decimal(STDOUT_FILENO, why.ring as u64);
         }
         Acceptance::Accepted { nodes, bound } => {
             io::write_all(STDOUT_FILENO, b": nodes ");
@@ -113,6 +115,16 @@ fn two_rings() {
         [3, 1, 2, 0],
     );
     five(
+        b"a ring of three, then one of two: 0-1 1-2 2-0 1-0",
+        [0, 1, 2, 1],
+        [1, 2, 0, 0],
+    );
+    five(
+        b"a ring of two, then one of three: 0-1 1-0 1-2 2-0",
+        [0, 1, 1, 2],
+        [1, 0, 2, 0],
+    );
+    five(
         b"a ring, but a row that joins a node to itself: 0-1 1-0 2-2 3-4",
         [0, 1, 2, 3],
         [1, 0, 2, 4],
@@ -154,6 +166,8 @@ fn largest() {
     show_largest(b"4096 nodes in one line", &t);
     put(&mut t, 4094, 4094, 0);
     show_largest(b"its last row turned back to node 0", &t);
+    put(&mut t, 4094, 3000, 17);
+    show_largest(b"its last row from node 3000 to node 17", &t);
     put(&mut t, 2000, 2001, 2000);
     put(&mut t, 2001, 2000, 2001);
     show_largest(b"and a repeat in the middle", &t);

@@ -53,4 +53,5 @@ heads-answer-one Written (Refused w) l m e =
 heads-answer-one (Refused w) Written l m e =
     let f : _≡_ {A = ℕ} 1 0 = ap (λ (o : Outcome). cond (o .refused) 1 0) e in
     absurd (omega (arith, f))
-heads-answer-one (Refused w) (Refused v) l m e = λ i. Refused (record { number = e i .number; row = e i .row })
+heads-answer-one (Refused w) (Refused v) l m e =
+    λ i. Refused (record { number = e i .number; row = e i .row; ring = e i .ring })

@@ -1,4 +1,4 @@
--- Joined is an equivalence, and more rows join no less.
+-- Walks one after the other; joined is an equivalence, and more rows join no less.
 use Prim.Native.Nat.{ℕ}
 use mathlib.Core.List.{List, [], _∷_, _++_}
 use Rattle.tree.specs.Graph.{Ends, Walk, stop, go, Joined}
@@ -12,12 +12,18 @@ module _ (u v : ℕ → ℕ) where
     pub joined-step : {r a c b : ℕ} → P r → Ends u v r a c → Joined u v P c b → Joined u v P a b
     joined-step h e w = (_, _, go h e (w .2))
 
-    walk-then : {a b c : ℕ} {rs ns : List ℕ} → Walk u v P a rs ns c → Joined u v P c b → Joined u v P a b
-    walk-then stop t = t
-    walk-then (go h e w) t = joined-step h e (walk-then w t)
+    -- one walk, and then another
+    pub walk-on : {a b c : ℕ} {rs ns qs ms : List ℕ} → Walk u v P a rs ns b → Walk u v P b qs ms c
+        → Walk u v P a (rs ++ qs) (ns ++ ms) c
+    walk-on stop t = t
+    walk-on (go h e w) t = go h e (walk-on w t)
+
+    pub walk-snoc : {a b c r : ℕ} {rs ns : List ℕ} → Walk u v P a rs ns b → P r → Ends u v r b c
+        → Walk u v P a (rs ++ (r ∷ [])) (ns ++ (c ∷ [])) c
+    walk-snoc w h e = walk-on w (go h e stop)
 
     pub joined-trans : {a b c : ℕ} → Joined u v P a c → Joined u v P c b → Joined u v P a b
-    joined-trans w t = walk-then (w .2) t
+    joined-trans w t = (_, _, walk-on (w .2) (t .2))
 
     walk-back : {a b : ℕ} {rs ns : List ℕ} → Walk u v P a rs ns b → Joined u v P b a
     walk-back stop = joined-refl _
@@ -33,8 +39,3 @@ module _ (u v : ℕ → ℕ) where
 
     pub joined-mono : {a b : ℕ} → Joined u v P a b → Joined u v Q a b
     joined-mono w = (_, _, walk-mono (w .2))
-
-  pub walk-snoc : {P : ℕ → Type 0} {a b c r : ℕ} {rs ns : List ℕ} → Walk u v P a rs ns b → P r → Ends u v r b c
-      → Walk u v P a (rs ++ (r ∷ [])) (ns ++ (c ∷ [])) c
-  walk-snoc stop h e = go h e stop
-  walk-snoc (go h′ e′ w) h e = go h′ e′ (walk-snoc w h e)

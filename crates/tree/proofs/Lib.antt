@@ -6,6 +6,9 @@ pub mod Bridge
 pub mod OnePath
 pub mod Erase
 pub mod RingExactly
+pub mod After
+pub mod RingRows
+pub mod Outcomes
 pub mod Labels
 pub mod Counts
 pub mod Rooted
@@ -15,6 +18,7 @@ pub mod Union
 pub mod Chains
 pub mod Queue
 pub mod Walked
+pub mod Around
 pub mod WalkOnly
 pub mod Above
 pub mod Grown
@@ -30,3 +34,4 @@ pub mod Meeting
 pub mod Short
 pub mod Hung
 pub mod Flip
+pub mod OneRing

@@ -53,3 +53,26 @@ distinct-snoc l c d n = distinct-join l (c ∷ []) d (not-nil, tt) last
     last : (x : ℕ) → In x l → In x (c ∷ []) → ⊥
     last x i (at e) = n (rw e at i)
     last x i (past h) = not-nil h
+
+-- the two parts of a list without a member twice
+pub record Parts (l m : List ℕ) : Type 0 where
+  pub left : Distinct l
+  pub right : Distinct m
+  pub none : (x : ℕ) → In x l → In x m → ⊥
+
+pub distinct-parts : (l m : List ℕ) → Distinct (l ++ m) → Parts l m
+distinct-parts [] m d = record { left = tt; right = d; none = λ x i j. not-nil i }
+distinct-parts (y ∷ l) m d = more (distinct-parts l m (d .1))
+  where
+    more : Parts l m → Parts (y ∷ l) m
+    more p = record { left = (λ i. d .0 (in-left m i), p .left); right = p .right; none = none }
+      where
+        none : (x : ℕ) → In x (y ∷ l) → In x m → ⊥
+        none x (at e) j = d .0 (in-right l (rw e at j))
+        none x (past i) j = p .none x i j
+
+-- begun at another place
+pub distinct-turn : (l m : List ℕ) → Distinct (l ++ m) → Distinct (m ++ l)
+distinct-turn l m d =
+    let p = distinct-parts l m d in
+    distinct-join m l (p .right) (p .left) (λ x i j. p .none x j i)

@@ -16,8 +16,9 @@ use Rattle.tree.proofs.Chains.{from-fits, flip-fit}
 use Rattle.tree.proofs.Counts.{upto, upto-length, upto-in, Without, without}
 
 -- and of the node p at head the half-branches from y on
-pub record Inner (us vs : ℕ → ℕ) (rows : ℕ) (head p y m : ℕ) (parent half order place : List ℕ) : Type 0 where
-  pub queue : Queue us vs rows m parent half order place
+pub record Inner (start : ℕ) (us vs : ℕ → ℕ) (rows : ℕ) (head p y m : ℕ)
+    (parent half order place : List ℕ) : Type 0 where
+  pub queue : Queue start us vs rows m parent half order place
   pub in-queue : head < m
   pub here : at order head ≡ p
   pub latest : (i : ℕ) → 0 < i → i < m
@@ -25,9 +26,9 @@ pub record Inner (us vs : ℕ → ℕ) (rows : ℕ) (head p y m : ℕ) (parent h
   pub done : (i h : ℕ) → i < head → h < 2 * rows → from us vs h ≡ at order i → at parent (from vs us h) ≢ 4096
   pub doing : (h : ℕ) → y ≤ h → h < 2 * rows → from us vs h ≡ p → at parent (from vs us h) ≢ 4096
 
-module _ (us vs : ℕ → ℕ) (rows : ℕ) (parent half order place : List ℕ) (head m : ℕ) where
-  pub inner-start : (p : ℕ) → p ≡ at order head → head < m → Outer us vs rows head m parent half order place
-      → Inner us vs rows head p (2 * rows) m parent half order place
+module _ {start : ℕ} (us vs : ℕ → ℕ) (rows : ℕ) (parent half order place : List ℕ) (head m : ℕ) where
+  pub inner-start : (p : ℕ) → p ≡ at order head → head < m → Outer start us vs rows head m parent half order place
+      → Inner start us vs rows head p (2 * rows) m parent half order place
   inner-start p e b o = record {
     queue = o .queue;
     in-queue = b;
@@ -37,9 +38,9 @@ module _ (us vs : ℕ → ℕ) (rows : ℕ) (parent half order place : List ℕ)
     doing = λ h l k q. absurd (omega arith);
   }
 
-  module _ (p y : ℕ) (s : Inner us vs rows head p y m parent half order place) where
+  module _ (p y : ℕ) (s : Inner start us vs rows head p y m parent half order place) where
     -- no half-branch of p is below y and not below x
-    pub inner-skip : (x : ℕ) → Last (from us vs) p y x → Inner us vs rows head p x m parent half order place
+    pub inner-skip : (x : ℕ) → Last (from us vs) p y x → Inner start us vs rows head p x m parent half order place
     inner-skip x l = record {
       queue = s .queue;
       in-queue = s .in-queue;
@@ -57,7 +58,7 @@ module _ (us vs : ℕ → ℕ) (rows : ℕ) (parent half order place : List ℕ)
         pick h b k q (no n) = absurd (l .none h b (omega arith) q)
 
     pub inner-keep : (h : ℕ) → y ≡ h + 1 → at parent (from vs us h) ≢ 4096
-        → Inner us vs rows head p h m parent half order place
+        → Inner start us vs rows head p h m parent half order place
     inner-keep h e n = record {
       queue = s .queue;
       in-queue = s .in-queue;
@@ -71,7 +72,7 @@ module _ (us vs : ℕ → ℕ) (rows : ℕ) (parent half order place : List ℕ)
         pick g b k q (yes f) = rw f n
         pick g b k q (no f) = s .doing g (omega arith) k q
 
-    pub inner-end : y ≡ 0 → Outer us vs rows (head + 1) m parent half order place
+    pub inner-end : y ≡ 0 → Outer start us vs rows (head + 1) m parent half order place
     inner-end e = record {
       queue = s .queue;
       in-queue = omega (arith, s .in-queue);
@@ -98,7 +99,7 @@ module _ (us vs : ℕ → ℕ) (rows : ℕ) (parent half order place : List ℕ)
       abbrev Pla : List ℕ
       Pla = set place c m
 
-      Q : Queue us vs rows m parent half order place
+      Q : Queue start us vs rows m parent half order place
       Q = s .queue
 
       fewer : Without c (Q .free .0)
@@ -166,7 +167,7 @@ module _ (us vs : ℕ → ℕ) (rows : ℕ) (parent half order place : List ℕ)
       high-new =
           rw (par-new, lo p (λ q. ne head (s .in-queue) (s .here ∙ q)), sym (s .here)) (Q .back head (s .in-queue))
 
-      pub queue-push : Queue us vs rows (m + 1) Par Hal Ord Pla
+      pub queue-push : Queue start us vs rows (m + 1) Par Hal Ord Pla
       queue-push =
           record {
             long = (
@@ -178,7 +179,7 @@ module _ (us vs : ℕ → ℕ) (rows : ℕ) (parent half order place : List ℕ)
             free = (fewer .0, omega (arith, Q .free .1, fewer .1), λ v l q. pick-free v l q (ℕ-discrete v c));
             some = omega arith;
             root = oo 0 (Q .some) ∙ Q .root;
-            top = (par0 ∙ Q .top .0, hal0 ∙ Q .top .1);
+            top = (po start old ∙ Q .top .0, ho start old ∙ Q .top .1);
             within = λ i l. pick-within i l (ℕ-discrete i m);
             reached = λ i l. pick-reached i l (ℕ-discrete i m);
             placed = λ v l n. pick-placed v l n (ℕ-discrete v c);
@@ -190,14 +191,8 @@ module _ (us vs : ℕ → ℕ) (rows : ℕ) (parent half order place : List ℕ)
             rest = λ i l k. getD-set-other order m i c 0 (omega arith) ∙ Q .rest i (omega arith) k;
           }
         where
-          c≢0 : 0 ≢ c
-          c≢0 q = omega (arith, Q .top .0, new, ap (at parent) q)
-
-          par0 : at Par 0 ≡ at parent 0
-          par0 = po 0 c≢0
-
-          hal0 : at Hal 0 ≡ at half 0
-          hal0 = ho 0 c≢0
+          old : start ≢ c
+          old q = ne 0 (Q .some) (Q .root ∙ q)
 
           pick-free : (v : ℕ) → v < 4096 → at Par v ≡ 4096 → Dec (v ≡ c) → In v (fewer .0)
           pick-free v l q (yes f) = absurd (omega (arith, pb, sym pn ∙ (rw f at q)))
@@ -259,7 +254,7 @@ module _ (us vs : ℕ → ℕ) (rows : ℕ) (parent half order place : List ℕ)
           pick-blank v l q (yes f) = absurd (omega (arith, pb, sym pn ∙ (rw f at q)))
           pick-blank v l q (no f) = let t = Q .blank v l (sym (po v f) ∙ q) in (ho v f ∙ t .0, lo v f ∙ t .1)
 
-      pub inner-push : Inner us vs rows head p h (m + 1) Par Hal Ord Pla
+      pub inner-push : Inner start us vs rows head p h (m + 1) Par Hal Ord Pla
       inner-push = record {
         queue = queue-push;
         in-queue = omega (arith, s .in-queue);
@@ -282,60 +277,67 @@ module _ (us vs : ℕ → ℕ) (rows : ℕ) (parent half order place : List ℕ)
           pick-doing g l k q (no f) = keeps _ (s .doing g (omega arith) k q)
 
 -- The beginning
-pub queue-one : (us vs : ℕ → ℕ) (rows : ℕ) (parent half order place : List ℕ) → Filled 4096 4096 parent
-    → Filled 4096 0 half → Filled 4096 0 order → Filled 4096 0 place
-    → Outer us vs rows 0 1 (set parent 0 0) half order place
-queue-one us vs rows parent half order place f g k o =
+pub queue-one : (start : ℕ) (us vs : ℕ → ℕ) (rows : ℕ) (parent half order place : List ℕ) → start < 4096
+    → Filled 4096 4096 parent → Filled 4096 0 half → Filled 4096 0 order → Filled 4096 0 place
+    → Outer start us vs rows 0 1 (set parent start start) half (set order 0 start) place
+queue-one start us vs rows parent half order place b f g k o =
     record {
       queue = record {
-        long = (length-set parent 0 0 ∙ f .long, g .long, k .long, o .long);
+        long = (length-set parent start start ∙ f .long, g .long, length-set order 0 start ∙ k .long, o .long);
         free = (
           others .0,
           omega (arith, others .1, upto-length 4096),
           λ v l q. others .2 v (upto-in 4096 v l) (λ e. omega (arith, p0, rw e at q)),
         );
         some = omega arith;
-        root = k .each 0 (omega arith);
-        top = (p0, g .each 0 (omega arith));
-        within = λ i l. omega (arith, k .each i (omega arith));
-        reached = λ i l. rw (k .each i (omega arith), p0) (omega arith);
-        placed = λ v l n. pick v l n (ℕ-discrete v 0);
-        back = λ i l. rw (k .each i (omega arith), o .each 0 (omega arith)) (omega arith);
+        root = o0;
+        top = (p0, g .each start b);
+        within = λ i l. rw (first i l, o0) b;
+        reached = λ i l. rw (first i l, o0, p0) b;
+        placed = λ v l n. pick v l n (ℕ-discrete v start);
+        back = λ i l. rw (first i l, o0) (o .each start b);
         child = λ i z l. absurd (omega arith);
         above = λ i z l. absurd (omega arith);
         falls = λ i j z l h. absurd (omega arith);
         blank = λ v l q. (g .each v l, o .each v l);
-        rest = λ i l h. k .each i h;
+        rest = λ i l h. getD-set-other order 0 i start 0 (omega arith) ∙ k .each i h;
       };
       in-queue = omega arith;
       latest = λ i z l. absurd (omega arith);
       done = λ i h l b q. absurd (omega arith);
     }
   where
-    p0 : at (set parent 0 0) 0 ≡ 0
-    p0 = getD-set-same parent 0 0 0 (omega (arith, f .long))
+    first : (i : ℕ) → i < 1 → i ≡ 0
+    first i l = omega arith
 
-    others : Without 0 (upto 4096)
-    others = without 0 (upto 4096) (upto-in 4096 0 (omega arith))
+    p0 : at (set parent start start) start ≡ start
+    p0 = getD-set-same parent start start 0 (omega (arith, f .long))
 
-    pick : (v : ℕ) → v < 4096 → at (set parent 0 0) v ≢ 4096 → Dec (v ≡ 0)
-        → (at place v < 1) × (at order (at place v) ≡ v)
-    pick v l n (yes e) = rw (e, o .each 0 (omega arith)) (omega arith, k .each 0 (omega arith))
-    pick v l n (no m) = absurd (n (getD-set-other parent 0 v 0 0 m ∙ f .each v l))
+    o0 : at (set order 0 start) 0 ≡ start
+    o0 = getD-set-same order 0 start 0 (omega (arith, k .long))
+
+    others : Without start (upto 4096)
+    others = without start (upto 4096) (upto-in 4096 start b)
+
+    pick : (v : ℕ) → v < 4096 → at (set parent start start) v ≢ 4096 → Dec (v ≡ start)
+        → (at place v < 1) × (at (set order 0 start) (at place v) ≡ v)
+    pick v l n (yes e) = rw (e, o .each start b) (omega arith, o0)
+    pick v l n (no m) = absurd (n (getD-set-other parent start v start 0 m ∙ f .each v l))
 
 -- What the loop of `visit` keeps, at the half-branch x - 1
-pub record Going (us vs : ℕ → ℕ) (rows : ℕ) (first next : List ℕ) (head p x m : ℕ) (parent half order place : List ℕ) :
-    Type 0 where
+pub record Going (start : ℕ) (us vs : ℕ → ℕ) (rows : ℕ) (first next : List ℕ) (head p x m : ℕ)
+    (parent half order place : List ℕ) : Type 0 where
   pub chains : Chained us vs rows (2 * rows) first next
   pub node : p < 4096
   pub low : x ≤ 2 * rows
   pub hit : 0 < x → from us vs (x - 1) ≡ p
-  pub inner : Inner us vs rows head p x m parent half order place
+  pub inner : Inner start us vs rows head p x m parent half order place
 
-module _ (us vs : ℕ → ℕ) (rows : ℕ) (first next : List ℕ) (head m : ℕ) (parent half order place : List ℕ) where
+module _ {start : ℕ} (us vs : ℕ → ℕ) (rows : ℕ) (first next : List ℕ) (head m : ℕ)
+    (parent half order place : List ℕ) where
   pub going-start : (p x : ℕ) → Chained us vs rows (2 * rows) first next → head < m
-      → Outer us vs rows head m parent half order place → p ≡ at order head → x ≡ at first p
-      → Going us vs rows first next head p x m parent half order place
+      → Outer start us vs rows head m parent half order place → p ≡ at order head → x ≡ at first p
+      → Going start us vs rows first next head p x m parent half order place
   going-start p x c b o e d =
       let pb : p < 4096 = rw e (o .queue .within head b) in
       let l : Last (from us vs) p (2 * rows) x = rw d (c .firsts p pb) in
@@ -348,7 +350,7 @@ module _ (us vs : ℕ → ℕ) (rows : ℕ) (first next : List ℕ) (head m : �
             (inner-start us vs rows parent half order place head m p e b o) x l;
       }
 
-  module _ (p x : ℕ) (g : Going us vs rows first next head p x m parent half order place) (z : 0 < x) where
+  module _ (p x : ℕ) (g : Going start us vs rows first next head p x m parent half order place) (z : 0 < x) where
     same : x ≡ x - 1 + 1
     same = omega arith
 
@@ -362,7 +364,7 @@ module _ (us vs : ℕ → ℕ) (rows : ℕ) (first next : List ℕ) (head m : �
     leads-place f e = rw e (from-fits vs us (x - 1) (flip-fit f) fits)
 
     pub going-keep : (c y : ℕ) → c ≡ from vs us (x - 1) → at parent c ≢ 4096 → y ≡ at next (x - 1)
-        → Going us vs rows first next head p y m parent half order place
+        → Going start us vs rows first next head p y m parent half order place
     going-keep c y e n d =
         let l = next-last y d in
         record {
@@ -379,7 +381,7 @@ module _ (us vs : ℕ → ℕ) (rows : ℕ) (first next : List ℕ) (head m : �
         room us vs rows parent half order place head m p x (g .inner) (x - 1) c same fits (g .hit z) e b n
 
     pub going-push : (c y : ℕ) → c ≡ from vs us (x - 1) → c < 4096 → at parent c ≡ 4096 → y ≡ at next (x - 1)
-        → Going us vs rows first next head p y (m + 1) (set parent c p) (set half c (x - 1)) (set order m c)
+        → Going start us vs rows first next head p y (m + 1) (set parent c p) (set half c (x - 1)) (set order m c)
         (set place c m)
     going-push c y e b n d =
         let l = next-last y d in

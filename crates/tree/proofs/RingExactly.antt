@@ -1,14 +1,14 @@
 -- A ring is in the first k rows exactly if one of them has ends that earlier rows join. From a ring: drop its first
 -- row, and the bridge. To a ring: a simple path between the ends, and the row.
-use Prim.Native.Nat.{ℕ, _≤_, _<_}
-use mathlib.Core.Path.{refl, sym}
+use Prim.Native.Nat.{ℕ, _+_, _≤_, _<_}
+use mathlib.Core.Path.{_≡_, refl, sym}
 use mathlib.Core.Logic.{inr, _≢_}
 use mathlib.Core.List.{List, _∷_}
 use native.Mathlib.Omega.{arith}
 use native.Mathlib.Nat.{not-suc-le-zero}
 use lib.ListN.{length}
 use Rattle.tree.specs.Members.{In, at, past, Distinct}
-use Rattle.tree.specs.Graph.{First, Walk, stop, go, Simple, Forest, Ring}
+use Rattle.tree.specs.Graph.{First, Walk, stop, go, Forest, Ring}
 use Rattle.tree.proofs.Members.{not-nil}
 use Rattle.tree.proofs.Rows.{But, Closes, ends-left}
 use Rattle.tree.proofs.Joined.{walk-mono}
@@ -17,7 +17,7 @@ use Rattle.tree.proofs.OnePath.{avoid}
 use Rattle.tree.proofs.Erase.{simple}
 
 module _ (u v : ℕ → ℕ) where
-  fresh : {P : ℕ → Type 0} {r a b : ℕ} {rs ns : List ℕ} → Walk u v P a rs ns b → ¬ In r rs
+  pub fresh : {P : ℕ → Type 0} {r a b : ℕ} {rs ns : List ℕ} → Walk u v P a rs ns b → ¬ In r rs
       → Walk u v (But P r) a rs ns b
   fresh stop n = stop
   fresh (go h e w) n = go (h, λ q. n (at (sym q))) e (fresh w (λ m. n (past m)))
@@ -43,19 +43,38 @@ module _ (u v : ℕ → ℕ) where
   pub ring-closes : {k : ℕ} → Ring u v k → Closes u v k
   ring-closes o = around (o .closed) (o .rows-once) (o .two)
 
-  pub closes-ring : {k : ℕ} → ((r : ℕ) → r < k → u r ≢ v r) → Closes u v k → Ring u v k
-  closes-ring {k} n c = close (c .0) (c .1) (simple u v (c .2))
+  -- a simple path between the ends of row r along the rows before it, and the row
+  pub path-ring : {r : ℕ} {rs ns : List ℕ} → u r ≢ v r → Walk u v (First r) (u r) rs ns (v r) → Distinct (u r ∷ ns)
+      → (o : Ring u v (r + 1)) × (o .rs ≡ r ∷ rs)
+  path-ring {r} {rs} {ns} n w d = (around-row, refl)
     where
-      close : (r : ℕ) → r < k → Simple u v (First r) (u r) (v r) → Ring u v k
-      close r l t = record {
+      around-row : Ring u v (r + 1)
+      around-row = record {
         start = v r;
-        rs = r ∷ t .0;
-        ns = u r ∷ t .1;
-        closed = go l (inr (refl, refl)) (walk-mono u v (λ s h. omega arith) (t .2));
-        rows-once = (unused (λ s h. omega arith) (t .2), once (t .2) (t .3));
-        nodes-once = t .3;
-        two = omega (arith, long (t .2) (n r l));
+        rs = r ∷ rs;
+        ns = u r ∷ ns;
+        closed = go {r = r} (omega arith) (inr (refl, refl)) (walk-mono u v (λ s h. omega arith) w);
+        rows-once = (unused (λ s h. omega arith) w, once w d);
+        nodes-once = d;
+        two = omega (arith, long w n);
       }
+
+  pub ring-more : {k m : ℕ} → k ≤ m → Ring u v k → Ring u v m
+  ring-more l o =
+      record {
+        start = o .start;
+        rs = o .rs;
+        ns = o .ns;
+        closed = walk-mono u v (λ s h. omega arith) (o .closed);
+        rows-once = o .rows-once;
+        nodes-once = o .nodes-once;
+        two = o .two;
+      }
+
+  pub closes-ring : {k : ℕ} → ((r : ℕ) → r < k → u r ≢ v r) → Closes u v k → Ring u v k
+  closes-ring n c =
+      let t = simple u v (c .2) in
+      ring-more (omega (arith, c .1)) (path-ring (n (c .0) (c .1)) (t .2) (t .3) .0)
 
   pub forest-iff : {k : ℕ} → ((r : ℕ) → r < k → u r ≢ v r)
       → (Forest u v k → ¬ Ring u v k) × (¬ Ring u v k → Forest u v k)

@@ -1,4 +1,4 @@
--- Where the queue has run empty, exactly the nodes joined to node 0 are in the order.
+-- Where the queue has run empty, exactly the nodes joined to the start are in the order.
 use Prim.Native.Nat.{ℕ, zero, suc, _/_, _≤_, _<_}
 use mathlib.Core.Path.{_≡_, sym, _∙_}
 use mathlib.Core.Logic.{_≢_}
@@ -7,14 +7,14 @@ use native.Mathlib.Omega.{arith}
 use native.Mathlib.Decide.{ℕ-discrete}
 use Rattle.arrays.specs.Filled.{at}
 use Rattle.tree.specs.Graph.{First, Walk, stop, go, Joined}
-use Rattle.tree.specs.Walked.{High, Walked}
+use Rattle.tree.specs.Walked.{High, WalkedFrom}
 use Rattle.tree.specs.Work.{RowsFit, Queue, Outer}
 use Rattle.tree.proofs.Joined.{joined-refl, joined-step, joined-trans}
 use Rattle.tree.proofs.Chains.{from-fits, flip-fit, half-ends, ends-half}
 
-module _ (us vs : ℕ → ℕ) (rows : ℕ) (parent half order place : List ℕ) (head m : ℕ) (fit : RowsFit us vs rows 4096)
-    (o : Outer us vs rows head m parent half order place) (end : m ≤ head) where
-  Q₁ : Queue us vs rows m parent half order place
+module _ {start : ℕ} (us vs : ℕ → ℕ) (rows : ℕ) (parent half order place : List ℕ) (head m : ℕ) (low : start < 4096)
+    (fit : RowsFit us vs rows 4096) (o : Outer start us vs rows head m parent half order place) (end : m ≤ head) where
+  Q₁ : Queue start us vs rows m parent half order place
   Q₁ = o .queue
 
   -- what a reached node leads to is reached
@@ -28,13 +28,13 @@ module _ (us vs : ℕ → ℕ) (rows : ℕ) (parent half order place : List ℕ)
       reach-walk w (rw (h .3) at g)
       (rw (h .3) at (o .done (at place a) (h .0) (omega (arith, t .0)) (h .1) (h .2 ∙ sym (t .1))))
 
-  joined-at : (k i : ℕ) → i < k → i < m → Joined us vs (First rows) 0 (at order i)
+  joined-at : (k i : ℕ) → i < k → i < m → Joined us vs (First rows) start (at order i)
   joined-at zero i l b = absurd (omega arith)
   joined-at (suc k) i l b = pick (ℕ-discrete i 0) (joined-at k)
     where
-      pick : Dec (i ≡ 0) → ((j : ℕ) → j < k → j < m → Joined us vs (First rows) 0 (at order j))
-          → Joined us vs (First rows) 0 (at order i)
-      pick (yes e) ih = rw (e, Q₁ .root) (joined-refl _ _ 0)
+      pick : Dec (i ≡ 0) → ((j : ℕ) → j < k → j < m → Joined us vs (First rows) start (at order j))
+          → Joined us vs (First rows) start (at order i)
+      pick (yes e) ih = rw (e, Q₁ .root) (joined-refl _ _ start)
       pick (no n) ih =
           let z : 0 < i = omega arith in
           let t = Q₁ .above i z b in
@@ -43,7 +43,7 @@ module _ (us vs : ℕ → ℕ) (rows : ℕ) (parent half order place : List ℕ)
           joined-trans _ _ (rw (t .1) at (ih (High parent order place i) (omega (arith, t .0)) (omega (arith, t .0))))
           (joined-step _ _ f (rw (c .leaves, c .leads) at (half-ends us vs (at half (at order i)))) (joined-refl _ _ _))
 
-  pub walked : Walked us vs rows m parent half order place
+  pub walked : WalkedFrom start us vs rows m parent half order place
   walked = record {
     long = Q₁ .long;
     some = (Q₁ .some, omega (arith, Q₁ .free .1));
@@ -52,7 +52,7 @@ module _ (us vs : ℕ → ℕ) (rows : ℕ) (parent half order place : List ℕ)
     within = Q₁ .within;
     back = Q₁ .back;
     joined = λ i l. joined-at (suc i) i (omega arith) l;
-    listed = λ v l w. Q₁ .placed v l (reach-walk (w .2) (omega arith) (λ e. omega (arith, Q₁ .top .0)));
+    listed = λ v l w. Q₁ .placed v l (reach-walk (w .2) low (λ e. omega (arith, low, Q₁ .top .0)));
     child = Q₁ .child;
     above = Q₁ .above;
     falls = Q₁ .falls;
@@ -60,7 +60,7 @@ module _ (us vs : ℕ → ℕ) (rows : ℕ) (parent half order place : List ℕ)
     rest = Q₁ .rest;
   }
     where
-      lone : (v : ℕ) → v < 4096 → ¬ Joined us vs (First rows) 0 v → Dec (at parent v ≡ 4096)
+      lone : (v : ℕ) → v < 4096 → ¬ Joined us vs (First rows) start v → Dec (at parent v ≡ 4096)
           → (at parent v ≡ 4096) × (at half v ≡ 0) × (at place v ≡ 0)
       lone v l n (yes e) = let t = Q₁ .blank v l e in (e, t .0, t .1)
       lone v l n (no d) =

@@ -1,5 +1,5 @@
--- What the walk from node 0 leaves in four arrays: for each node its parent, the half-branch by which it was reached
--- and its place in the order; for each place the node.
+-- What a walk leaves in four arrays: for each node its parent, the half-branch by which it was reached and its place in
+-- the order; for each place the node.
 use Prim.Native.Nat.{ℕ, _*_, _≤_, _<_}
 use mathlib.Core.Path.{_≡_}
 use mathlib.Core.List.{List}
@@ -25,21 +25,25 @@ Falls m parent half order place =
     → (High parent order place i ≤ High parent order place j)
     × (High parent order place i ≡ High parent order place j → at half (at order j) < at half (at order i))
 
--- rows below `rows` join us r and vs r; m nodes are joined to node 0, each is in the order once, parents before
+-- rows below `rows` join us r and vs r; m nodes are joined to the node start, each is in the order once, parents before
 -- children
-pub record Walked (us vs : ℕ → ℕ) (rows m : ℕ) (parent half order place : List ℕ) : Type 0 where
+pub record WalkedFrom (start : ℕ) (us vs : ℕ → ℕ) (rows m : ℕ) (parent half order place : List ℕ) : Type 0 where
   pub long : (length parent ≡ 4096) × (length half ≡ 4096) × (length order ≡ 4096) × (length place ≡ 4096)
   pub some : (0 < m) × (m ≤ 4096)
-  pub root : at order 0 ≡ 0
-  pub top : (at parent 0 ≡ 0) × (at half 0 ≡ 0)
+  pub root : at order 0 ≡ start
+  pub top : (at parent start ≡ start) × (at half start ≡ 0)
   pub within : (i : ℕ) → i < m → at order i < 4096
   pub back : (i : ℕ) → i < m → at place (at order i) ≡ i
-  pub joined : (i : ℕ) → i < m → Joined us vs (First rows) 0 (at order i)
-  pub listed : (v : ℕ) → v < 4096 → Joined us vs (First rows) 0 v → (at place v < m) × (at order (at place v) ≡ v)
+  pub joined : (i : ℕ) → i < m → Joined us vs (First rows) start (at order i)
+  pub listed : (v : ℕ) → v < 4096 → Joined us vs (First rows) start v → (at place v < m) × (at order (at place v) ≡ v)
   pub child : (i : ℕ) → 0 < i → i < m → Reached us vs rows parent half (at order i)
   pub above : (i : ℕ) → 0 < i → i < m
       → (High parent order place i < i) × (at order (High parent order place i) ≡ at parent (at order i))
   pub falls : Falls m parent half order place
-  pub others : (v : ℕ) → v < 4096 → ¬ Joined us vs (First rows) 0 v
+  pub others : (v : ℕ) → v < 4096 → ¬ Joined us vs (First rows) start v
       → (at parent v ≡ 4096) × (at half v ≡ 0) × (at place v ≡ 0)
   pub rest : (i : ℕ) → m ≤ i → i < 4096 → at order i ≡ 0
+
+-- the walk from the root, node 0
+abbrev pub Walked : (us vs : ℕ → ℕ) (rows m : ℕ) (parent half order place : List ℕ) → Type 0
+Walked = WalkedFrom 0

@@ -32,6 +32,11 @@ pub record Fitting (s : List ℕ) (n : ℕ) : Type 0 where
   pub stands : (r : ℕ) → r < n - 1 → Stands s r
   pub fit : RowsFit (firstEnd s) (secondEnd s) (n - 1) n
 
+-- the rows before row r join its ends
+pub record Closing (s : List ℕ) (r : ℕ) : Type 0 where
+  pub readable : Readable s (r + 1)
+  pub joins : RingAt (firstEnd s) (secondEnd s) r
+
 -- Union by rank
 
 -- each of the first i of 4,096 places holds its own number
@@ -100,13 +105,13 @@ pub record Chained (us vs : ℕ → ℕ) (rows k : ℕ) (first next : List ℕ) 
 
 -- The queue
 
--- m nodes are in the order
-pub record Queue (us vs : ℕ → ℕ) (rows m : ℕ) (parent half order place : List ℕ) : Type 0 where
+-- m nodes are in the order, which begins with the node start
+pub record Queue (start : ℕ) (us vs : ℕ → ℕ) (rows m : ℕ) (parent half order place : List ℕ) : Type 0 where
   pub long : (length parent ≡ 4096) × (length half ≡ 4096) × (length order ≡ 4096) × (length place ≡ 4096)
   pub free : (l : List ℕ) × (length l + m ≡ 4096) × ((v : ℕ) → v < 4096 → at parent v ≡ 4096 → In v l)
   pub some : 0 < m
-  pub root : at order 0 ≡ 0
-  pub top : (at parent 0 ≡ 0) × (at half 0 ≡ 0)
+  pub root : at order 0 ≡ start
+  pub top : (at parent start ≡ start) × (at half start ≡ 0)
   pub within : (i : ℕ) → i < m → at order i < 4096
   pub reached : (i : ℕ) → i < m → at parent (at order i) < 4096
   pub placed : (v : ℕ) → v < 4096 → at parent v ≢ 4096 → (at place v < m) × (at order (at place v) ≡ v)
@@ -119,19 +124,19 @@ pub record Queue (us vs : ℕ → ℕ) (rows m : ℕ) (parent half order place :
   pub rest : (i : ℕ) → m ≤ i → i < 4096 → at order i ≡ 0
 
 -- the places below head are done
-pub record Outer (us vs : ℕ → ℕ) (rows head m : ℕ) (parent half order place : List ℕ) : Type 0 where
-  pub queue : Queue us vs rows m parent half order place
+pub record Outer (start : ℕ) (us vs : ℕ → ℕ) (rows head m : ℕ) (parent half order place : List ℕ) : Type 0 where
+  pub queue : Queue start us vs rows m parent half order place
   pub in-queue : head ≤ m
   pub latest : (i : ℕ) → 0 < i → i < m → High parent order place i < head
   pub done : (i h : ℕ) → i < head → h < 2 * rows → from us vs h ≡ at order i → at parent (from vs us h) ≢ 4096
 
 -- what a visit of the node at the place head asks
-pub record Visits (s : List ℕ) (rows : ℕ) (first next : List ℕ) (head tail : ℕ) (parent half order place : List ℕ) :
-    Type 0 where
+pub record Visits (start : ℕ) (s : List ℕ) (rows : ℕ) (first next : List ℕ) (head tail : ℕ)
+    (parent half order place : List ℕ) : Type 0 where
   pub readable : Readable s rows
   pub chains : Chained (firstEnd s) (secondEnd s) rows (2 * rows) first next
   pub ahead : head < tail
-  pub outer : Outer (firstEnd s) (secondEnd s) rows head tail parent half order place
+  pub outer : Outer start (firstEnd s) (secondEnd s) rows head tail parent half order place
 
 -- m nodes are joined to node 0, as some walk found
 pub record Reaches (us vs : ℕ → ℕ) (rows m : ℕ) : Type 0 where

@@ -3,17 +3,24 @@ mod common;
 mod ends;
 mod reach;
 mod ring;
+mod round;
 
 pub use common::meet;
 ghost use mathlib.Core.Path.{_≡_};
 ghost use Prim.Native.Nat.{_-_};
-ghost use Rattle.table.specs.Outcome.{Outcome, refusal, found};
 ghost use Rattle.tree.specs.Net.{firstEnd, secondEnd, Net};
-ghost use Rattle.tree.specs.Accept.{outcome, Rings, Accepts};
+ghost use Rattle.tree.specs.Accept.{Outcome, refusal, found, outcome, Rings, Accepts};
 ghost use Rattle.tree.specs.Walked.{Walked};
 ghost use Rattle.tree.specs.Work.{Fitting};
 use table::Opening;
-use table::Refusal;
+
+// What is refused, by the paper's number; the row it names, 0 where none is named; and how many rows the ring has that
+// this row closes, 0 but for number 11.
+pub struct Refusal {
+    pub number: u8,
+    pub row: usize,
+    pub ring: usize,
+}
 
 // What acceptance gives: the node count and the wire bound, or why not.
 pub enum Acceptance {
@@ -27,7 +34,11 @@ pub fn accept(s: &[u8]) -> Acceptance
 {
     let o = table::examine(s);
     match o {
-        Opening::Refused(why) => Acceptance::Refused(why),
+        Opening::Refused(why) => Acceptance::Refused(Refusal {
+            number: why.number,
+            row: why.row,
+            ring: 0,
+        }),
         Opening::Opened { nodes, bound } => rings(s, nodes, bound),
     }
 }
@@ -41,10 +52,19 @@ fn rings(s: &[u8], nodes: u16, bound: u32) -> Acceptance
     let rows = n - 1;
     let r = ring::first_closing(s, rows);
     if r < rows {
-        return Acceptance::Refused(Refusal { number: 11, row: r });
+        let g = round::ring_rows(s, r);
+        return Acceptance::Refused(Refusal {
+            number: 11,
+            row: r,
+            ring: g,
+        });
     }
     if reach::reached(s, rows) < n {
-        return Acceptance::Refused(Refusal { number: 12, row: 0 });
+        return Acceptance::Refused(Refusal {
+            number: 12,
+            row: 0,
+            ring: 0, // 11 alone has one
+        });
     }
     Acceptance::Accepted { nodes, bound }
 }
@@ -64,5 +84,5 @@ pub fn walk(
         (now (parent .exit)) (now (half .exit)) (now (order .exit)) (now (place .exit)) ⌝ }
 {
     let rows = arrays::wide(nodes) - 1;
-    reach::from_root(s, rows, parent, half, order, place);
+    reach::walk_from(s, rows, 0, parent, half, order, place);
 }

@@ -1,11 +1,12 @@
-// The walk from node 0 by a queue, over chains of half-branches: 2r and 2r + 1 are row r, left by its first end and by
+// The walk from a node by a queue, over chains of half-branches: 2r and 2r + 1 are row r, left by its first end and by
 // its second.
 ghost use mathlib.Core.Path.{_≡_};
 ghost use Prim.Native.Nat.{_+_, _*_, _/_, _<_};
+ghost use Rattle.arrays.specs.Filled.{at};
 ghost use Rattle.table.specs.Row.{Stands};
 ghost use Rattle.tree.specs.Net.{firstEnd, secondEnd};
 ghost use Rattle.tree.specs.Half.{from};
-ghost use Rattle.tree.specs.Walked.{Walked};
+ghost use Rattle.tree.specs.Walked.{WalkedFrom};
 ghost use Rattle.tree.specs.Work.{Readable, Chained, Outer, Visits, Reaches};
 use crate::ends::first_end;
 use crate::ends::second_end;
@@ -64,10 +65,10 @@ fn visit(
     head: usize,
     tail: usize,
 ) -> usize
-    requires { ⌜ Visits (now s) rows (now first) (now next) head tail (now parent) (now half) (now order)
-        (now place) ⌝ }
-    ensures { λ r. ⌜ Outer (firstEnd (now (s .entry))) (secondEnd (now (s .entry))) rows (head + 1) r
-        (now (parent .exit)) (now (half .exit)) (now (order .exit)) (now (place .exit)) ⌝ }
+    requires { ⌜ Visits (at (now order) 0) (now s) rows (now first) (now next) head tail (now parent) (now half)
+        (now order) (now place) ⌝ }
+    ensures { λ r. ⌜ Outer (at (now (order .entry)) 0) (firstEnd (now (s .entry))) (secondEnd (now (s .entry))) rows
+        (head + 1) r (now (parent .exit)) (now (half .exit)) (now (order .exit)) (now (place .exit)) ⌝ }
 {
     let p = arrays::wide(order[head]);
     let mut m = tail;
@@ -87,10 +88,12 @@ fn visit(
     m
 }
 
-// All nodes that are joined to node 0: every place starts as unvisited, and the answer is how many were reached.
+// All nodes that are joined to the node start: every place starts as unvisited, and the answer is how many were
+// reached.
 fn reach(
     s: &[u8],
     rows: usize,
+    start: usize,
     first: &[u16; 4096],
     next: &[u16; 8192],
     parent: &mut [u16; 4096],
@@ -98,16 +101,18 @@ fn reach(
     order: &mut [u16; 4096],
     place: &mut [u16; 4096],
 ) -> usize
-    requires { ⌜ Readable (now s) rows
+    requires { ⌜ (start < 4096)
+        × Readable (now s) rows
         × Chained (firstEnd (now s)) (secondEnd (now s)) rows (2 * rows) (now first) (now next) ⌝ }
-    ensures { λ r. ⌜ Walked (firstEnd (now (s .entry))) (secondEnd (now (s .entry))) rows r (now (parent .exit))
-        (now (half .exit)) (now (order .exit)) (now (place .exit)) ⌝ }
+    ensures { λ r. ⌜ WalkedFrom start (firstEnd (now (s .entry))) (secondEnd (now (s .entry))) rows r
+        (now (parent .exit)) (now (half .exit)) (now (order .exit)) (now (place .exit)) ⌝ }
 {
     arrays::fill(parent, 4096);
     arrays::fill(half, 0);
     arrays::fill(order, 0);
     arrays::fill(place, 0);
-    parent[0] = 0;
+    parent[start] = start as u16;
+    order[0] = start as u16;
     let mut head: usize = 0;
     let mut tail: usize = 1;
     while head < tail {
@@ -118,22 +123,23 @@ fn reach(
 }
 
 // The chains, and the walk over them.
-pub(crate) fn from_root(
+pub(crate) fn walk_from(
     s: &[u8],
     rows: usize,
+    start: usize,
     parent: &mut [u16; 4096],
     half: &mut [u16; 4096],
     order: &mut [u16; 4096],
     place: &mut [u16; 4096],
 ) -> usize
-    requires { ⌜ Readable (now s) rows ⌝ }
-    ensures { λ r. ⌜ Walked (firstEnd (now (s .entry))) (secondEnd (now (s .entry))) rows r (now (parent .exit))
-        (now (half .exit)) (now (order .exit)) (now (place .exit)) ⌝ }
+    requires { ⌜ (start < 4096) × Readable (now s) rows ⌝ }
+    ensures { λ r. ⌜ WalkedFrom start (firstEnd (now (s .entry))) (secondEnd (now (s .entry))) rows r
+        (now (parent .exit)) (now (half .exit)) (now (order .exit)) (now (place .exit)) ⌝ }
 {
     let mut first: [u16; 4096] = [0; 4096];
     let mut next: [u16; 8192] = [0; 8192];
     chains(s, rows, &mut first, &mut next);
-    reach(s, rows, &first, &next, parent, half, order, place)
+    reach(s, rows, start, &first, &next, parent, half, order, place)
 }
 
 // How many nodes are joined to node 0.
@@ -145,5 +151,5 @@ pub(crate) fn reached(s: &[u8], rows: usize) -> usize
     let mut half: [u16; 4096] = [0; 4096];
     let mut order: [u16; 4096] = [0; 4096];
     let mut place: [u16; 4096] = [0; 4096];
-    from_root(s, rows, &mut parent, &mut half, &mut order, &mut place)
+    walk_from(s, rows, 0, &mut parent, &mut half, &mut order, &mut place)
 }

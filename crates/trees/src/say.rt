@@ -1,6 +1,6 @@
 // Numbers on a line of standard output, and the sum over lent memory.
 use libc::STDOUT_FILENO;
-use table::Refusal;
+use tree::Refusal;
 
 pub(crate) fn word(text: &[u8]) {
     io::write_all(STDOUT_FILENO, text);
@@ -23,12 +23,13 @@ pub(crate) fn signed(w: i64) {
 }
 
 pub(crate) fn fine() {
-    word(b" 0 0");
+    word(b" 0 0 0");
 }
 
 pub(crate) fn refused(why: Refusal) {
     number(why.number as u64);
     number(why.row as u64);
+    number(why.ring as u64);
 }
 
 pub(crate) fn sum(x: u64) {

@@ -12,10 +12,11 @@ use Rattle.table.specs.Refuse.{passed, fine}
 use Rattle.table.specs.Bytes.{byteAt}
 use Rattle.table.specs.Header.{versionOf, nodesOf}
 use Rattle.table.specs.Row.{rowAt}
-use Rattle.table.specs.Examine.{RowNumber}
+use Rattle.table.specs.Examine.{RowNumber, Tested}
 use Rattle.table.proofs.Accepted.{Headed, past-header}
 use Rattle.tree.specs.Graph.{Forest}
 use Rattle.tree.specs.Net.{firstEnd, secondEnd, Whole}
+use Rattle.tree.specs.Ring.{apart}
 use Rattle.tree.specs.Accept.{Begins}
 use Rattle.tree.proofs.Labels.{label, label-joined, grows, grows-forest}
 use Rattle.worked.proofs.Tests.{every, every-passed, below, below-all}
@@ -48,20 +49,36 @@ module _ (s : List ℕ) where
   row-good : (r : ℕ) → T (every (row-tests r)) → RowNumber (nodesOf s) (rowAt s r) 0
   row-good r t =
       let p = every-passed (row-tests r) t in
-      let apart : rowAt s r .a ≡ rowAt s r .b → ⊥ = λ e. T-not (eqb (rowAt s r .a) (rowAt s r .b)) (p .1 .1 .0)
+      let differ : rowAt s r .a ≡ rowAt s r .b → ⊥ = λ e. T-not (eqb (rowAt s r .a) (rowAt s r .b)) (p .1 .1 .0)
       (rw e (eqb-refl (rowAt s r .b))) in
       passed (ltb→lt _ _ (p .0), ltb→lt _ _ (p .1 .0))
-      (passed apart
+      (passed differ
       (passed (leb→le _ _ (p .1 .1 .1 .0)) (passed (leZ-yes (p .1 .1 .1 .1 .0), leZ-yes (p .1 .1 .1 .1 .1 .0)) refl)))
+
+  -- 1 to 10 refuse nothing
+  abbrev good-tests : List Bool
+  good-tests = every head-tests ∷ below (λ r. every (row-tests r)) (nodesOf s - 1) ∷ []
+
+  unfoldable pub good? : Bool
+  good? = every good-tests
+
+  module _ (t : T good?) where
+    good-row : (r : ℕ) → r < nodesOf s - 1 → T (every (row-tests r))
+    unfolding good?
+    good-row = below-all (λ r. every (row-tests r)) (nodesOf s - 1) (every-passed good-tests t .1 .0)
+
+    pub good : {A : Type 0} (refuse : ℕ → ℕ → A) {rest : A → Type 0} {x : A} → rest x → Tested A refuse s rest x
+    unfolding good?
+    good refuse r =
+        past-header refuse {s = s} (headed (every-passed good-tests t .0))
+        (fine (λ i b. row-good i (good-row i b)) r)
 
   abbrev joins : ℕ → Bool
   joins x =
       eqb (label (firstEnd s) (secondEnd s) (nodesOf s - 1) 0) (label (firstEnd s) (secondEnd s) (nodesOf s - 1) x)
 
   abbrev tests : List Bool
-  tests =
-      every head-tests ∷ below (λ r. every (row-tests r)) (nodesOf s - 1)
-      ∷ grows (firstEnd s) (secondEnd s) (nodesOf s - 1) ∷ below joins (nodesOf s) ∷ []
+  tests = good? ∷ grows (firstEnd s) (secondEnd s) (nodesOf s - 1) ∷ below joins (nodesOf s) ∷ []
 
   unfoldable pub accepted? : Bool
   accepted? = every tests
@@ -69,25 +86,21 @@ module _ (s : List ℕ) where
   module _ (t : T accepted?) where
     pub forest : Forest (firstEnd s) (secondEnd s) (nodesOf s - 1)
     unfolding accepted?
-    forest = grows-forest (firstEnd s) (secondEnd s) (nodesOf s - 1) (every-passed tests t .1 .1 .0)
+    forest = grows-forest (firstEnd s) (secondEnd s) (nodesOf s - 1) (every-passed tests t .1 .0)
 
     pub whole : Whole s (nodesOf s)
     unfolding accepted?
     whole x b =
         label-joined (firstEnd s) (secondEnd s) (nodesOf s - 1) 0 x
-        (eqb→eq _ _ (below-all joins (nodesOf s) (every-passed tests t .1 .1 .1 .0) x b))
+        (eqb→eq _ _ (below-all joins (nodesOf s) (every-passed tests t .1 .1 .0) x b))
 
     pub ends-fit : (r : ℕ) → r < nodesOf s - 1 → (firstEnd s r < nodesOf s) × (secondEnd s r < nodesOf s)
     unfolding accepted? firstEnd secondEnd
     ends-fit r b =
-        let p = every-passed (row-tests r)
-        (below-all (λ r. every (row-tests r)) (nodesOf s - 1) (every-passed tests t .1 .0) r b) in
+        let p = every-passed (row-tests r) (good-row (every-passed tests t .0) r b) in
         (ltb→lt _ _ (p .0), ltb→lt _ _ (p .1 .0))
 
-    pub begins : {A : Type 0} (refuse : ℕ → ℕ → A) {rest : A → Type 0} {x : A} → rest x → Begins A refuse s rest x
+    pub begins : {A : Type 0} (refuse : ℕ → ℕ → ℕ → A) {rest : A → Type 0} {x : A} → rest x → Begins A refuse s rest x
     unfolding accepted?
     begins refuse r =
-        let p = every-passed tests t in
-        past-header refuse {s = s} (headed (p .0))
-        (fine (λ i b. row-good i (below-all (λ r. every (row-tests r)) (nodesOf s - 1) (p .1 .0) i b))
-        (fine (λ i b. passed (forest i b) refl) (passed whole r)))
+        good (every-passed tests t .0) (λ k r. refuse k r 0) (fine (λ i b. apart (forest i b) refl) (passed whole r))

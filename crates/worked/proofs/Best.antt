@@ -28,12 +28,13 @@ module _ (way : ℕ → ℕ → List ℕ) (s marks : List ℕ) (o : Outcome) whe
 
   abbrev found-tests : List Bool
   found-tests =
-      eqb (o .row) 0 ∷ wanted? s marks way short any run ∷ all-pairs s marks way short any (at-least? run) ∷ []
+      eqb (o .row) 0 ∷ wanted? s marks way short any run ∷ all-pairs s marks way short any (at-least? run)
+      ∷ eqb (o .ring) 0 ∷ []
 
   abbrev refused-tests : List Bool
   refused-tests =
       eqb (o .number) 16 ∷ eqb (o .row) 0 ∷ eqb (o .low) 0 ∷ eqb (o .high) 0 ∷ eqb (o .length) 0
-      ∷ eqZ (o .weight) (pos 0) ∷ all-pairs s marks way short any (λ e. false) ∷ []
+      ∷ eqZ (o .weight) (pos 0) ∷ all-pairs s marks way short any (λ e. false) ∷ eqb (o .ring) 0 ∷ []
 
   abbrev tests : List Bool
   tests =
@@ -71,10 +72,12 @@ module _ (way : ℕ → ℕ → List ℕ) (s marks : List ℕ) (o : Outcome) whe
           let q = every-passed found-tests t in
           let z : o .number ≡ 0 = f tt in
           let y : o .row ≡ 0 = eqb→eq _ _ (q .0) in
+          let g : o .ring ≡ 0 = eqb→eq _ _ (q .1 .1 .1 .0) in
           let r = to run (is-wanted s marks way short any (p .1 .1 .0) run (q .1 .0)) in
           let is : o ≡ found run = λ i. record {
             number = z i;
             row = y i;
+            ring = g i;
             low = o .low;
             high = o .high;
             length = o .length;
@@ -100,9 +103,10 @@ module _ (way : ℕ → ℕ → List ℕ) (s marks : List ℕ) (o : Outcome) whe
           let b : o .high ≡ 0 = eqb→eq _ _ (q .1 .1 .1 .0) in
           let l : o .length ≡ 0 = eqb→eq _ _ (q .1 .1 .1 .1 .0) in
           let w : o .weight ≡ pos 0 = eqZ-is _ _ (q .1 .1 .1 .1 .1 .0) in
-          let is : o ≡ refusal 16 0 =
-          λ i. record { number = n i; row = r i; low = a i; high = b i; length = l i; weight = w i } in
-          turn (refusal 16 0) is
+          let g : o .ring ≡ 0 = eqb→eq _ _ (q .1 .1 .1 .1 .1 .1 .1 .0) in
+          let is : o ≡ refusal 16 0 0 =
+          λ i. record { number = n i; row = r i; ring = g i; low = a i; high = b i; length = l i; weight = w i } in
+          turn (refusal 16 0 0) is
           (begins s (p .0) refusal
           (passed m
           (refused

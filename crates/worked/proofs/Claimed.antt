@@ -53,7 +53,8 @@ module _ (way : ℕ → ℕ → List ℕ) (s before : List ℕ) (run a b : ℕ) 
   frees (r ∷ l) = cond (eqb (at before r) 0) (r ∷ frees l) (frees l)
 
   abbrev refused-tests : ℕ → List Bool
-  refused-tests k = o .refused ∷ eqb (o .number) k ∷ eqb (o .row) 0 ∷ eqb (o .count) 0 ∷ same (o .marks) before ∷ []
+  refused-tests k =
+      o .refused ∷ eqb (o .number) k ∷ eqb (o .row) 0 ∷ eqb (o .count) 0 ∷ same (o .marks) before ∷ eqb (o .ring) 0 ∷ []
 
   -- too long; or none free; or claimed
   abbrev long-tests : List Bool
@@ -65,7 +66,7 @@ module _ (way : ℕ → ℕ → List ℕ) (s before : List ℕ) (run a b : ℕ) 
       ∷ []
 
   abbrev changed-tests : List Bool
-  changed-tests = not (o .refused) ∷ eqb (o .number) 0 ∷ eqb (o .row) 0 ∷ []
+  changed-tests = not (o .refused) ∷ eqb (o .number) 0 ∷ eqb (o .row) 0 ∷ eqb (o .ring) 0 ∷ []
 
   abbrev right : ℕ → Bool
   right r = eqb (at (o .marks) r) (cond (taken? r) run (at before r))
@@ -91,7 +92,7 @@ module _ (way : ℕ → ℕ → List ℕ) (s before : List ℕ) (run a b : ℕ) 
   unfoldable pub claim? : Bool
   claim? = every tests
 
-  is-refusal : (k : ℕ) → T (every (refused-tests k)) → o ≡ refusal before k 0
+  is-refusal : (k : ℕ) → T (every (refused-tests k)) → o ≡ refusal before k 0 0
   is-refusal k t =
       let q = every-passed (refused-tests k) t in
       let f : o .refused ≡ true = is-true (o .refused) (q .0) in
@@ -99,7 +100,8 @@ module _ (way : ℕ → ℕ → List ℕ) (s before : List ℕ) (run a b : ℕ) 
       let r : o .row ≡ 0 = eqb→eq _ _ (q .1 .1 .0) in
       let c : o .count ≡ 0 = eqb→eq _ _ (q .1 .1 .1 .0) in
       let m : o .marks ≡ before = same-is _ _ (q .1 .1 .1 .1 .0) in
-      λ i. record { refused = f i; number = n i; row = r i; count = c i; marks = m i }
+      let g : o .ring ≡ 0 = eqb→eq _ _ (q .1 .1 .1 .1 .1 .0) in
+      λ i. record { refused = f i; number = n i; row = r i; ring = g i; count = c i; marks = m i }
 
   is-changed : T (every changed-tests) → o ≡ changed (o .marks) (o .count)
   is-changed t =
@@ -107,7 +109,8 @@ module _ (way : ℕ → ℕ → List ℕ) (s before : List ℕ) (run a b : ℕ) 
       let f : o .refused ≡ false = is-false (o .refused) (q .0) in
       let n : o .number ≡ 0 = eqb→eq _ _ (q .1 .0) in
       let r : o .row ≡ 0 = eqb→eq _ _ (q .1 .1 .0) in
-      λ i. record { refused = f i; number = n i; row = r i; count = o .count; marks = o .marks }
+      let g : o .ring ≡ 0 = eqb→eq _ _ (q .1 .1 .1 .0) in
+      λ i. record { refused = f i; number = n i; row = r i; ring = g i; count = o .count; marks = o .marks }
 
   module _ (ok : T (accepted? s)) (w : T (path? s a rs b)) where
     path : Between s (nodesOf s) a rs b
@@ -174,10 +177,10 @@ module _ (way : ℕ → ℕ → List ℕ) (s before : List ℕ) (run a b : ℕ) 
             → Ended s (nodesOf s) (boundOf s) before run a b o
         pick true d t =
             let q = every-passed long-tests t in
-            turn (refusal before 18 0) (is-refusal 18 (q .0)) (refused (long (ltb→lt _ _ (q .1 .0))))
+            turn (refusal before 18 0 0) (is-refusal 18 (q .0)) (refused (long (ltb→lt _ _ (q .1 .0))))
         pick false true t =
             let q = every-passed none-tests t in
-            turn (refusal before 19 0) (is-refusal 19 (q .0))
+            turn (refusal before 19 0 0) (is-refusal 19 (q .0))
             (passed (record { rows = rs; path = path; short = leb→le _ _ (q .1 .0) })
             (refused
             (λ f. T-not (eqb (at before (f .row)) 0)

@@ -41,7 +41,7 @@ module _ (up by : ℕ → ℕ) (s before : List ℕ) (o : Outcome) where
   right x = eqb (headAt up by s x) (at (o .list) x)
 
   abbrev written-tests : List Bool
-  written-tests = not (o .refused) ∷ eqb (o .number) 0 ∷ eqb (o .row) 0 ∷ []
+  written-tests = not (o .refused) ∷ eqb (o .number) 0 ∷ eqb (o .row) 0 ∷ eqb (o .ring) 0 ∷ []
 
   abbrev tests : List Bool
   tests =
@@ -57,7 +57,8 @@ module _ (up by : ℕ → ℕ) (s before : List ℕ) (o : Outcome) where
       let f : o .refused ≡ false = is-false (o .refused) (q .0) in
       let n : o .number ≡ 0 = eqb→eq _ _ (q .1 .0) in
       let r : o .row ≡ 0 = eqb→eq _ _ (q .1 .1 .0) in
-      λ i. record { refused = f i; number = n i; row = r i; list = o .list }
+      let g : o .ring ≡ 0 = eqb→eq _ _ (q .1 .1 .1 .0) in
+      λ i. record { refused = f i; number = n i; row = r i; ring = g i; list = o .list }
 
   pub is-heads : T heads? → Headings s before o
   unfolding heads?

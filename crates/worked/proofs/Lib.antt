@@ -3,6 +3,7 @@ pub mod Worked
 pub mod Tests
 pub mod Accepted
 pub mod Ways
+pub mod Ringed
 pub mod Entries
 pub mod Pairs
 pub mod Best

@@ -106,7 +106,7 @@ module _ (way : ℕ → ℕ → List ℕ) (up by : ℕ → ℕ) (s marks : List 
       accepted? s ∷ hangs? up by s ∷ eqb (length marks) (nodesOf s - 1) ∷ ltb a (nodesOf s) ∷ ltb b (nodesOf s)
       ∷ not (eqb a b) ∷ path? s a rs b ∷ eqb (o .number) 0 ∷ eqb (o .row) 0 ∷ eqb (Sum (lengthOf s) rs) (o .length)
       ∷ eqZ (Total (weightUnder s marks) rs) (o .weight) ∷ every (touch-tests up by s on)
-      ∷ eqb (length (once (heads-of up by s on))) (o .hops) ∷ []
+      ∷ eqb (length (once (heads-of up by s on))) (o .hops) ∷ eqb (o .ring) 0 ∷ []
 
   unfoldable pub pair? : Bool
   pair? = every tests
@@ -130,6 +130,7 @@ module _ (way : ℕ → ℕ → List ℕ) (up by : ℕ → ℕ) (s marks : List 
       (record {
         number = eqb→eq _ _ (r .0);
         row = eqb→eq _ _ (r .1 .0);
+        ring = eqb→eq _ _ (r .1 .1 .1 .1 .1 .1 .0);
         path = record {
           rows = rs;
           path = is-path s a rs b w;

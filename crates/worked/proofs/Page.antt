@@ -68,7 +68,7 @@ module _ (way : ℕ → ℕ → List ℕ) (s marks : List ℕ) (floor : ℤ) (lo
       ∷ each (wanted? s marks way short (leZ floor)) gathered ∷ each (after? low high) gathered
       ∷ all-pairs s marks way short (leZ floor) listed ∷ not (o .refused) ∷ eqb (o .number) 0 ∷ eqb (o .row) 0
       ∷ eqb (o .written) (length given) ∷ eqb (length given + o .left) (length gathered)
-      ∷ same (o .bytes) (rows given ++ drop (16 * o .written) lent) ∷ []
+      ∷ same (o .bytes) (rows given ++ drop (16 * o .written) lent) ∷ eqb (o .ring) 0 ∷ []
 
   unfoldable pub listing? : Bool
   listing? = every tests
@@ -104,6 +104,7 @@ module _ (way : ℕ → ℕ → List ℕ) (s marks : List ℕ) (floor : ℤ) (lo
         taken = is-false (o .refused) refused;
         number = eqb→eq _ _ (r .0);
         row = eqb→eq _ _ (r .1 .0);
+        ring = eqb→eq _ _ (r .1 .1 .1 .1 .1 .0);
         page = record {
           some = given;
           page = record {

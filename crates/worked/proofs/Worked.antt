@@ -1,5 +1,5 @@
--- The claim: all starred cases of document 01, and that of Req 01, hold of the definitions. Each operation has a test
--- that computes and a law that what passes it holds; the list is then a computation.
+-- The claim: all starred cases of document 01, and those of Req 01 and Req 03, hold of the definitions. Each operation
+-- has a test that computes and a law that what passes it holds; the list is then a computation.
 use Prim.Native.Nat.{ℕ}
 use mathlib.Core.Bool.{Bool, true, _&&_}
 use mathlib.Core.List.{List, [], _∷_}
@@ -15,11 +15,12 @@ use Rattle.spines.proofs.Main.{best, main-some, main?}
 use Rattle.spines.proofs.Head.{head-some}
 use Rattle.marks.specs.Weighs.{weighs, weightUnder}
 use Rattle.pages.specs.Bytes.{bytes, row, rows}
-use Rattle.worked.specs.Case.{Case, heaviest, listing, heads, leaves, pair, claim, Holds, All}
-use Rattle.worked.specs.Cases.{n5, free, held, marked, crossed, lent, three, cases}
+use Rattle.worked.specs.Case.{Case, accept, heaviest, listing, heads, leaves, pair, claim, Holds, All}
+use Rattle.worked.specs.Cases.{net5, n5, free, held, marked, crossed, lent, three, cases}
 use Rattle.worked.proofs.Tests.{both, every, below, has, throughout, no-repeat, same}
-use Rattle.worked.proofs.Accepted.{accepted?}
+use Rattle.worked.proofs.Accepted.{good?, accepted?}
 use Rattle.worked.proofs.Ways.{other, met, leads, path?}
+use Rattle.worked.proofs.Ringed.{ringed?, is-ringed}
 use Rattle.worked.proofs.Pairs.{ways?, wanted?, all-pairs}
 use Rattle.worked.proofs.Entries.{after?, at-least?, same-entry, each, has-entry, rising?}
 use Rattle.worked.proofs.Page.{listing?, is-listing, seconds, firsts}
@@ -50,6 +51,7 @@ by x = getD (0 ∷ 0 ∷ 1 ∷ 2 ∷ 3 ∷ []) x 0
 
 -- the test of a case, by its operation
 unfoldable check : Case → Bool
+check (accept s o) = ringed? way s o
 check (heaviest s marks o) = heaviest? way s marks o
 check (listing s marks floor low high lent o) = listing? way s marks floor low high lent o
 check (heads s lent o) = heads? up by s lent o
@@ -59,6 +61,7 @@ check (claim s marks run a b o) = claim? way s marks run a b o
 
 check-holds : (c : Case) → T (check c) → Holds c
 unfolding check
+check-holds (accept s o) t = is-ringed way s o t
 check-holds (heaviest s marks o) t = is-heaviest way s marks o t
 check-holds (listing s marks floor low high lent o) t = is-listing way s marks floor low high lent o t
 check-holds (heads s lent o) t = is-heads up by s lent o t
@@ -78,8 +81,8 @@ all-hold (c ∷ l) t = let a = both (check c) (check-all l) t in (check-holds c 
 -- Every starred case holds.
 pub cases-hold : All cases
 unfolding head-some main? main-some best many count-dec leaves-some leaf-under? leaf? child? above? some? decLt decLe up
-    by heads? leaves? pair? hangs? par headAt once heads-of check-all check cases n5 free held marked crossed lent three
-    way ways heaviest? claim? frees throughout listing? seconds firsts bytes row rows rising? each has-entry same-entry
-    same accepted? ways? path? leads met other wanted? all-pairs at-least? after? every below has no-repeat label
-    relabel grows ℕ-discrete firstEnd secondEnd lengthOf weightOf weightUnder weighs Total
+    by heads? leaves? pair? hangs? par headAt once heads-of check-all check cases net5 n5 free held marked crossed lent
+    three way ways heaviest? claim? frees throughout listing? seconds firsts bytes row rows rising? each has-entry
+    same-entry same good? accepted? ringed? ways? path? leads met other wanted? all-pairs at-least? after? every below
+    has no-repeat label relabel grows ℕ-discrete firstEnd secondEnd lengthOf weightOf weightUnder weighs Total
 cases-hold = all-hold cases tt

@@ -1,10 +1,13 @@
--- A worked case: an operation's inputs, lent memory among them, and the outcome that document 01 gives for them. It holds where that outcome is as the operation's own promise says.
+-- A worked case: an operation's inputs, lent memory among them, and the outcome that the documents give for them. It
+-- holds where that outcome is as the operation's own promise says.
 use Prim.Native.Nat.{ℕ, _-_}
 use mathlib.Core.List.{List, [], _∷_}
 use lib.IntN.{ℤ}
 use Rattle.table.specs.Header.{nodesOf}
 use Rattle.tree.specs.Members.{In}
 use Rattle.tree.specs.Net.{firstEnd, secondEnd}
+use Rattle.tree.specs.Accept as A
+use Rattle.tree.specs.Accept.{Accepts}
 use Rattle.spines.specs.Spine.{ChildOf, Leaf}
 use Rattle.spines.specs.Heads as S
 use Rattle.spines.specs.Heads.{Headings}
@@ -23,6 +26,7 @@ pub record LeavesAre (s nodes : List ℕ) : Type 0 where
   pub all : (x : ℕ) → Leaf (ChildOf (firstEnd s) (secondEnd s) (nodesOf s - 1) (nodesOf s)) (nodesOf s) x → In x nodes
 
 pub data Case : Type 0 where
+  accept : (table : List ℕ) → A.Outcome → Case
   heaviest : (table marks : List ℕ) → H.Outcome → Case
   listing : (table marks : List ℕ) (floor : ℤ) (low high : ℕ) (lent : List ℕ) → L.Outcome → Case
   heads : (table lent : List ℕ) → S.Outcome → Case
@@ -31,6 +35,7 @@ pub data Case : Type 0 where
   claim : (table marks : List ℕ) (run a b : ℕ) → M.Outcome → Case
 
 abbrev pub Holds : Case → Type 0
+Holds (accept table o) = Accepts table o
 Holds (heaviest table marks o) = HeaviestOf table marks o
 Holds (listing table marks floor low high lent o) = ListingOf table marks floor low high lent o
 Holds (heads table lent o) = Headings table lent o

@@ -1,24 +1,29 @@
--- The starred cases of document 01 and the one that document 02, Req 01, gives: the small net N5 under several bounds,
--- what is asked of it, and the answers.
+-- The starred cases of document 01 and those that document 02, Req 01 and Req 03, gives: the small net N5 under several
+-- bounds, and with a row repeated; what is asked of it, and the answers.
 use Prim.Native.Nat.{ℕ}
 use mathlib.Core.Bool.{false}
 use mathlib.Core.List.{List, [], _∷_, _++_}
 use lib.IntN.{pos, negsuc}
 use Rattle.pages.specs.Listing.{entry}
+use Rattle.tree.specs.Accept as A
 use Rattle.spines.specs.Heads as S
 use Rattle.marks.specs.Change as M
 use Rattle.answers.specs.Heaviest as H
-use Rattle.worked.specs.Case.{Case, heaviest, listing, heads, leaves, pair, claim}
+use Rattle.worked.specs.Case.{Case, accept, heaviest, listing, heads, leaves, pair, claim}
 
--- N5 as a table: R T N, version 1, 5 nodes, reserved, bound B (below 256); then the rows
--- (0,1) 4, 5; (1,2) 3, 2; (1,3) 6, 7; (3,4) 2, −3
-unfoldable pub n5 : ℕ → List ℕ
-n5 bound =
+-- a table: R T N, version 1, 5 nodes, reserved, bound B (below 256); then the rows
+-- (0,1) 4, 5; (a,b) 3, 2; (1,3) 6, 7; (3,4) 2, −3
+unfoldable pub net5 : ℕ → ℕ → ℕ → List ℕ
+net5 a b bound =
     (82 ∷ 84 ∷ 78 ∷ 1 ∷ 0 ∷ 5 ∷ 0 ∷ 0 ∷ bound ∷ 0 ∷ 0 ∷ 0 ∷ [])
     ++ (0 ∷ 0 ∷ 1 ∷ 0 ∷ 4 ∷ 0 ∷ 0 ∷ 0 ∷ 5 ∷ 0 ∷ 0 ∷ 0 ∷ [])
-    ++ (1 ∷ 0 ∷ 2 ∷ 0 ∷ 3 ∷ 0 ∷ 0 ∷ 0 ∷ 2 ∷ 0 ∷ 0 ∷ 0 ∷ [])
+    ++ (a ∷ 0 ∷ b ∷ 0 ∷ 3 ∷ 0 ∷ 0 ∷ 0 ∷ 2 ∷ 0 ∷ 0 ∷ 0 ∷ [])
     ++ (1 ∷ 0 ∷ 3 ∷ 0 ∷ 6 ∷ 0 ∷ 0 ∷ 0 ∷ 7 ∷ 0 ∷ 0 ∷ 0 ∷ [])
     ++ (3 ∷ 0 ∷ 4 ∷ 0 ∷ 2 ∷ 0 ∷ 0 ∷ 0 ∷ 253 ∷ 255 ∷ 255 ∷ 255 ∷ [])
+
+-- N5: the second row is (1,2)
+unfoldable pub n5 : ℕ → List ℕ
+n5 = net5 1 2
 
 unfoldable pub free : List ℕ
 free = 0 ∷ 0 ∷ 0 ∷ 0 ∷ []
@@ -52,18 +57,19 @@ cases =
     ∷ heaviest (n5 8) free (H.found (entry 1 3 6 (pos 7)))
     ∷ heaviest (n5 10) free (H.found (entry 0 3 10 (pos 12)))
     ∷ heaviest (n5 2) free (H.found (entry 3 4 2 (negsuc 2)))
-    ∷ heaviest (n5 1) free (H.refusal 16 0)
+    ∷ heaviest (n5 1) free (H.refusal 16 0 0)
     ∷ listing (n5 9) free (pos 7) 0 0 (lent ++ lent ++ lent ++ lent)
-    (record { refused = false; number = 0; row = 0; written = 3; left = 0; bytes = three ++ lent })
+    (record { refused = false; number = 0; row = 0; ring = 0; written = 3; left = 0; bytes = three ++ lent })
     ∷ listing (n5 9) free (pos 10) 0 0 lent
-    (record { refused = false; number = 0; row = 0; written = 0; left = 0; bytes = lent })
+    (record { refused = false; number = 0; row = 0; ring = 0; written = 0; left = 0; bytes = lent })
     ∷ heads (n5 9) (9 ∷ 9 ∷ 9 ∷ 9 ∷ 9 ∷ []) (S.written (0 ∷ 0 ∷ 0 ∷ 3 ∷ 3 ∷ []))
     ∷ leaves (n5 9) (2 ∷ 4 ∷ [])
-    ∷ pair (n5 9) free 2 4 (record { number = 0; row = 0; length = 11; weight = pos 6; hops = 2 })
+    ∷ pair (n5 9) free 2 4 (record { number = 0; row = 0; ring = 0; length = 11; weight = pos 6; hops = 2 })
     ∷ claim (n5 9) free 7 2 3 (M.changed held 2)
     ∷ heaviest (n5 9) held (H.found (entry 0 1 4 (pos 5)))
-    ∷ claim (n5 9) held 8 1 3 (M.refusal held 19 0)
-    ∷ claim (n5 9) free 7 0 3 (M.refusal free 18 0)
-    ∷ claim (n5 9) marked 7 0 3 (M.refusal marked 18 0)
+    ∷ claim (n5 9) held 8 1 3 (M.refusal held 19 0 0)
+    ∷ claim (n5 9) free 7 0 3 (M.refusal free 18 0 0)
+    ∷ claim (n5 9) marked 7 0 3 (M.refusal marked 18 0 0)
     ∷ heaviest (n5 2) crossed (H.found (entry 3 4 2 (negsuc 2)))
+    ∷ accept (net5 0 1 8) (A.refusal 11 1 2)
     ∷ []

@@ -34,7 +34,13 @@ returns-3 c =
     let e = toZ-ofZ w64 (args .floor) (fits .floor) in
     passed (omega (arith, wide-ensures))
     (passed (omega arith)
-    (record { taken = refl; number = refl; row = refl; page = rw e at (c .before .before .page .ensures) }))
+    (record {
+      taken = refl;
+      number = refl;
+      row = refl;
+      ring = refl;
+      page = rw e at (c .before .before .page .ensures);
+    }))
 
 pub go-on-spec : {M : Type 1} → statement M
 go-on-spec =

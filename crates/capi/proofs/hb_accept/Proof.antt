@@ -2,7 +2,7 @@
 use mathlib.Core.Path.{refl}
 use native.Mathlib.Omega.{arith}
 use borrow.Author.Needs.{needs}
-use Rattle.capi.proofs.Rows.{accept-low}
+use Rattle.capi.proofs.Rows.{nowhere, accept-low}
 use Rattle.capi.proofs.Stored.{stored, calls}
 use Rattle.capi.proofs.hb_accept.Statement.{statement}
 use Rattle.capi.proofs.hb_accept.Tie as tie
@@ -34,7 +34,7 @@ signed-requires-2 : tie.Need-signed-requires-2
 signed-requires-2 c κs = search needs
 
 fill-requires-2 : tie.Need-fill-requires-2
-fill-requires-2 c κs = search needs
+fill-requires-2 c κs = nowhere
 
 returns : tie.Need-returns
 returns c =

@@ -1,7 +1,7 @@
 -- `hb_heads` shows what the operation heads gives: a refusal as it stands, or the fields, as signed numbers.
 use mathlib.Core.Path.{refl}
 use borrow.Author.Needs.{needs}
-use Rattle.capi.proofs.Rows.{heads-low}
+use Rattle.capi.proofs.Rows.{nowhere, heads-low}
 use Rattle.capi.proofs.Stored.{calls}
 use Rattle.capi.proofs.hb_heads.Statement.{statement}
 use Rattle.capi.proofs.hb_heads.Tie as tie
@@ -21,7 +21,7 @@ enum-told : tie.Need-enum-told
 enum-told c = search needs
 
 fill-requires-2 : tie.Need-fill-requires-2
-fill-requires-2 c κs = search needs
+fill-requires-2 c κs = nowhere
 
 same-length : tie.Need-same-length
 same-length c = search needs

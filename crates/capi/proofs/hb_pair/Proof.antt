@@ -4,7 +4,7 @@ use native.Mathlib.Omega.{arith}
 use borrow.Author.Needs.{needs}
 use mir.Syntax.{w64}
 use mir.ValLaws.{toZ-ofZ}
-use Rattle.capi.proofs.Rows.{pair-low}
+use Rattle.capi.proofs.Rows.{nowhere, pair-low}
 use Rattle.capi.proofs.Stored.{stored, calls}
 use Rattle.capi.proofs.hb_pair.Statement.{statement}
 use Rattle.capi.proofs.hb_pair.Tie as tie
@@ -36,7 +36,7 @@ signed-requires-2 : tie.Need-signed-requires-2
 signed-requires-2 c κs = search needs
 
 fill-requires-2 : tie.Need-fill-requires-2
-fill-requires-2 c κs = search needs
+fill-requires-2 c κs = nowhere
 
 returns : tie.Need-returns
 returns c =

@@ -1,8 +1,8 @@
--- `rings` meets its contract: a row found is the first closing one; none found, fewer than n nodes reached means that
--- one is apart.
+-- `rings` meets its contract: a row found is the first closing one, and its ring has as many rows as were counted; none
+-- found, fewer than n nodes reached means that one is apart.
 use mathlib.Core.Path.{refl}
 use native.Mathlib.Omega.{arith}
-use Rattle.tree.proofs.Begins.{fitting-readable, rings-bad, rings-apart, rings-whole}
+use Rattle.tree.proofs.Begins.{fitting-readable, found-closing, rings-bad, rings-apart, rings-whole}
 use borrow.Author.Needs.{needs}
 use Rattle.tree.proofs.rings.Statement.{statement}
 use Rattle.tree.proofs.rings.Tie as tie
@@ -16,10 +16,16 @@ sub-rows c = search needs
 first-closing-requires : tie.Need-first-closing-requires
 first-closing-requires c κs = rw (c .wide .ensures .0) (fitting-readable (c .before .before .pre))
 
+ring-rows-requires : tie.Need-ring-rows-requires
+ring-rows-requires c κs =
+    let pre = c .before .before .before .before .pre in
+    let e = c .before .before .wide .ensures .0 in
+    found-closing pre (rw e at (c .before .first-closing .ensures)) (omega (arith, e))
+
 returns : tie.Need-returns
 returns c =
-    let wide-ensures = c .before .before .wide .ensures in
-    rings-bad _ _ _ (rw (wide-ensures .0) at (c .before .first-closing .ensures)) (omega (arith, wide-ensures .0))
+    let e = c .before .before .before .wide .ensures .0 in
+    rings-bad _ _ _ _ (rw e at (c .before .before .first-closing .ensures)) (omega (arith, e)) (c .ring-rows .ensures)
 
 reached-requires : tie.Need-reached-requires
 reached-requires c κs =
@@ -49,6 +55,7 @@ rings-spec =
     wide-requires
     sub-rows
     first-closing-requires
+    ring-rows-requires
     returns
     reached-requires
     returns-2

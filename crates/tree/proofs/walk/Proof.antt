@@ -1,4 +1,5 @@
 -- `walk` meets its contract: from the root of an accepted net all its nodes are reached.
+use native.Mathlib.Omega.{arith}
 use Rattle.tree.proofs.Begins.{fitting-readable}
 use Rattle.tree.proofs.NetWalk.{net-fitting, walk-all}
 use borrow.Author.Needs.{needs}
@@ -11,18 +12,18 @@ wide-requires c κs = search needs
 sub-rows : tie.Need-sub-rows
 sub-rows c = search needs
 
-from-root-requires : tie.Need-from-root-requires
-from-root-requires c κs =
+walk-from-requires : tie.Need-walk-from-requires
+walk-from-requires c κs =
     let wide-ensures = c .before .before .before .before .wide .ensures in
     let pre = c .before .before .before .before .before .before .pre in
-    rw (wide-ensures .0) (fitting-readable (net-fitting pre))
+    (omega arith, rw (wide-ensures .0) (fitting-readable (net-fitting pre)))
 
 returns : tie.Need-returns
 returns c =
     let wide-ensures = c .before .before .before .before .before .wide .ensures in
     let pre = c .before .before .before .before .before .before .before .pre in
-    let w = rw (wide-ensures .0) at (c .from-root .ensures) in
+    let w = rw (wide-ensures .0) at (c .walk-from .ensures) in
     rw (walk-all pre w) at w
 
 pub walk-spec : {M : Type 1} → statement M
-walk-spec = tie.close (tie.spec wide-requires sub-rows from-root-requires returns)
+walk-spec = tie.close (tie.spec wide-requires sub-rows walk-from-requires returns)

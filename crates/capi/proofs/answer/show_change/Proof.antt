@@ -2,6 +2,7 @@
 use mathlib.Core.Path.{refl}
 use native.Mathlib.Omega.{arith}
 use borrow.Author.Needs.{needs}
+use Rattle.capi.proofs.Rows.{nowhere}
 use Rattle.capi.proofs.Stored.{stored, calls}
 use Rattle.capi.proofs.answer.show_change.Statement.{statement}
 use Rattle.capi.proofs.answer.show_change.Tie as tie
@@ -22,7 +23,7 @@ signed-requires : tie.Need-signed-requires
 signed-requires c κs = search needs
 
 fill-requires-2 : tie.Need-fill-requires-2
-fill-requires-2 c κs = search needs
+fill-requires-2 c κs = nowhere
 
 returns : tie.Need-returns
 returns c = λ l. rw (c .before .before .before .o .given .1) (calls (c .fill .ensures .0) (c .fill .ensures .1) refl)

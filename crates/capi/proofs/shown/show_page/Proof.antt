@@ -2,6 +2,7 @@
 use mathlib.Core.Path.{refl}
 use native.Mathlib.Omega.{arith}
 use borrow.Author.Needs.{needs}
+use Rattle.capi.proofs.Rows.{nowhere}
 use Rattle.capi.proofs.Stored.{stored, calls}
 use Rattle.capi.proofs.shown.show_page.Statement.{statement}
 use Rattle.capi.proofs.shown.show_page.Tie as tie
@@ -10,7 +11,7 @@ enum-known-o : tie.Need-enum-known-o
 enum-known-o c = search needs
 
 fill-requires : tie.Need-fill-requires
-fill-requires c κs = rw (c .before .before .o .given .1) at (c .before .before .before .before .pre .1 .row)
+fill-requires c κs = rw (c .before .before .o .given .1) at (c .before .before .before .before .pre .1 .room)
 
 enum-known-o-2 : tie.Need-enum-known-o-2
 enum-known-o-2 c = search needs
@@ -24,7 +25,7 @@ signed-requires-2 c κs =
     omega (arith, (rw (c .before .before .o2 .given .1) at (pre .1 .counts)) refl)
 
 fill-requires-2 : tie.Need-fill-requires-2
-fill-requires-2 c κs = search needs
+fill-requires-2 c κs = nowhere
 
 returns : tie.Need-returns
 returns c = λ rows. rw (c .before .before .before .o .given .1) (calls (c .fill .ensures .0) (c .fill .ensures .1) refl)

@@ -4,6 +4,7 @@ use native.Mathlib.Omega.{arith}
 use borrow.Author.Needs.{needs}
 use mir.Syntax.{w64}
 use mir.ValLaws.{toZ-ofZ}
+use Rattle.capi.proofs.Rows.{nowhere}
 use Rattle.capi.proofs.Stored.{stored, calls}
 use Rattle.capi.proofs.shown.show_run.Statement.{statement}
 use Rattle.capi.proofs.shown.show_run.Tie as tie
@@ -36,7 +37,7 @@ signed-requires-3 : tie.Need-signed-requires-3
 signed-requires-3 c κs = search needs
 
 fill-requires-2 : tie.Need-fill-requires-2
-fill-requires-2 c κs = search needs
+fill-requires-2 c κs = nowhere
 
 returns : tie.Need-returns
 returns c = rw (c .before .before .before .o .given .1) (calls (c .fill .ensures .0) (c .fill .ensures .1) refl)

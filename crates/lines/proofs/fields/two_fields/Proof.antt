@@ -1,4 +1,4 @@
--- `two_fields` puts its fields one after the other, and the line's end.
+-- `two_fields` puts its fields one after the other.
 use native.Mathlib.Omega.{arith}
 use borrow.Author.Needs.{needs}
 use Rattle.text.proofs.Puts.{put-then}
@@ -11,18 +11,13 @@ field-requires c κs = search needs
 field-requires-2 : tie.Need-field-requires-2
 field-requires-2 c κs = search needs
 
-put-byte-requires : tie.Need-put-byte-requires
-put-byte-requires c κs = search needs
-
 same-length : tie.Need-same-length
 same-length c = search needs
 
 returns : tie.Need-returns
 returns c =
-    let field2-ensures = c .before .before .before .before .before .before .field2 .ensures in
-    let back = c .before .before .before .before .before .before .before .before .before .before in
-    let field-ensures = back .field .ensures in
-    (put-then (put-then (field-ensures .0) (field2-ensures .0)) (c .before .before .put-byte .ensures), omega arith)
+    let field-ensures = c .before .before .before .before .before .before .field .ensures in
+    (put-then (field-ensures .0) (c .before .before .field2 .ensures .0), omega arith)
 
 pub two-fields-spec : {M : Type 1} → statement M
-two-fields-spec = tie.close (tie.spec field-requires field-requires-2 put-byte-requires same-length returns)
+two-fields-spec = tie.close (tie.spec field-requires field-requires-2 same-length returns)

@@ -32,7 +32,7 @@ refuse-requires c κs =
     let heaviest-ensures = c .before .before .before .before .before .heaviest .ensures in
     let pre = c .before .before .before .before .before .before .before .before .before .before .before .pre in (
       pre .1 .text,
-      none-rest _ _ _ _ _ _ (omega arith) (omega arith) (pre .0)
+      none-rest _ _ _ _ (omega arith) (omega arith) (omega arith) _ _ _ (pre .0)
           (marks-free (pre .1 .free) (admitted _ _ _ (pre .0) .net .few) refl) (rw (o-given .1) at heaviest-ensures),
     )
 

@@ -16,7 +16,7 @@ refuse-requires c κs =
     let o-given = c .before .before .before .o .given in
     let accept-ensures = c .before .before .before .before .before .accept .ensures in
     let pre = c .before .before .before .before .before .before .before .before .before .before .pre in
-    (pre .text, refused-rest _ _ _ (omega arith) (omega arith) (rw (o-given .1) at accept-ensures))
+    (pre .text, refused-rest _ _ _ _ (omega arith) (omega arith) (omega arith) (rw (o-given .1) at accept-ensures))
 
 enum-known-o-2 : tie.Need-enum-known-o-2
 enum-known-o-2 c = search needs

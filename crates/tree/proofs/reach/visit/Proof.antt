@@ -2,6 +2,7 @@
 use Prim.Native.Nat.{_-_}
 use mathlib.Core.Logic.{⊎-elim}
 use native.Mathlib.Omega.{arith}
+use Rattle.arrays.specs.Filled.{at}
 use Rattle.tree.specs.Net.{firstEnd, secondEnd}
 use Rattle.tree.specs.Work.{Readable}
 use Rattle.tree.proofs.Queue.{Going, going-start, going-keep, going-room, going-push, inner-end, leads-place}
@@ -11,7 +12,7 @@ use Rattle.tree.proofs.reach.visit.Tie as tie
 
 abbrev Inv-loop : tie.InvT-loop
 Inv-loop s rows first next parent₀ half₀ order₀ place₀ head tail p m₀ x₀ parent half order place m x =
-    Going (firstEnd s) (secondEnd s) rows first next head p x m parent half order place × Readable s rows
+    Going (at order₀ 0) (firstEnd s) (secondEnd s) rows first next head p x m parent half order place × Readable s rows
 
 abbrev μ-loop : tie.MeasureT-loop
 μ-loop s rows first next parent₀ half₀ order₀ place₀ head tail p m₀ x₀ parent half order place m x = x

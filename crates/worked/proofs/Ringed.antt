@@ -1,0 +1,63 @@
+-- Acceptance that refuses by 11: an outcome that passes the test is the one promised. The rows before the row named
+-- make no ring, and the way between its ends goes along them alone; so its ring has that row and those of the way.
+use Prim.Native.Nat.{ℕ, _+_, _-_}
+use mathlib.Core.Path.{_≡_, refl}
+use mathlib.Core.Bool.{Bool}
+use mathlib.Core.List.{List, [], _∷_}
+use native.Mathlib.Omega.{arith}
+use lib.Dec.{T, eqb, ltb, eqb→eq, ltb→lt}
+use lib.ListN.{length}
+use Rattle.table.specs.Refuse.{bad}
+use Rattle.table.specs.Header.{nodesOf}
+use Rattle.tree.specs.Graph.{First, Walk, stop, go}
+use Rattle.tree.specs.Net.{firstEnd, secondEnd}
+use Rattle.tree.specs.Ring.{apart, closed}
+use Rattle.tree.specs.Accept.{Outcome, refusal, Accepts}
+use Rattle.tree.proofs.Labels.{grows, grows-forest}
+use Rattle.worked.proofs.Tests.{both, every, every-passed, throughout}
+use Rattle.worked.proofs.Accepted.{good?, good}
+use Rattle.worked.proofs.Ways.{met, path?, is-walk}
+
+-- a walk whose rows all stand before row r
+earlier : {u v : ℕ → ℕ} {k a b : ℕ} {rs ns : List ℕ} (r : ℕ) → T (throughout (λ q. ltb q r) rs)
+    → Walk u v (First k) a rs ns b → Walk u v (First r) a rs ns b
+unfolding throughout
+earlier r t stop = stop
+earlier r t (go {r = q} {rs = rs} h e w) =
+    let x = both (ltb q r) (throughout (λ q. ltb q r) rs) t in
+    go (ltb→lt q r (x .0)) e (earlier r (x .1) w)
+
+module _ (way : ℕ → ℕ → List ℕ) (s : List ℕ) (o : Outcome) where
+  abbrev r : ℕ
+  r = o .row
+
+  abbrev rs : List ℕ
+  rs = way (firstEnd s r) (secondEnd s r)
+
+  abbrev tests : List Bool
+  tests =
+      good? s ∷ ltb r (nodesOf s - 1) ∷ grows (firstEnd s) (secondEnd s) r
+      ∷ path? s (firstEnd s r) rs (secondEnd s r) ∷ throughout (λ q. ltb q r) rs
+      ∷ eqb (o .number) 11 ∷ eqb (o .ring) (1 + length rs) ∷ eqb (o .nodes) 0 ∷ eqb (o .bound) 0 ∷ []
+
+  unfoldable pub ringed? : Bool
+  ringed? = every tests
+
+  pub is-ringed : T ringed? → Accepts s o
+  unfolding ringed?
+  is-ringed t =
+      let p = every-passed tests t in
+      let q = p .1 .1 .1 .1 in
+      let k : o .number ≡ 11 = eqb→eq _ _ (q .1 .0) in
+      let g : o .ring ≡ 1 + length rs = eqb→eq _ _ (q .1 .1 .0) in
+      let n : o .nodes ≡ 0 = eqb→eq _ _ (q .1 .1 .1 .0) in
+      let b : o .bound ≡ 0 = eqb→eq _ _ (q .1 .1 .1 .1 .0) in
+      let w = is-walk s (firstEnd s r) rs (secondEnd s r) (p .1 .1 .1 .0) in
+      turn (λ i. record { number = k i; row = r; ring = o .ring; nodes = n i; bound = b i })
+      (good s (p .0) (λ k r. refusal k r 0)
+      (bad r (o .ring) (ltb→lt _ _ (p .1 .0))
+      (λ i h. apart (grows-forest (firstEnd s) (secondEnd s) r (p .1 .1 .0) i h) refl)
+      (closed rs (met s (firstEnd s r) rs, earlier r (q .0) (w .0), w .1) g) (λ e. omega (arith, e, g))))
+    where
+      turn : o ≡ refusal 11 r (o .ring) → Accepts s (refusal 11 r (o .ring)) → Accepts s o
+      turn e h = rw e h
