@@ -1,4 +1,4 @@
 -- Laws of the C functions, by topic. That each promise allows one outcome stands in Only.
 pub mod Only
-pub mod Stored
 pub mod Rows
+pub mod Shown

@@ -10,14 +10,10 @@ use Rattle.marks.proofs.MarksOnly.{claim-only, commit-only, abort-only}
 use Rattle.answers.proofs.PairOnly.{pair-only}
 use Rattle.answers.proofs.HeaviestOnly.{heaviest-only, heaviest-exact-only}
 use Rattle.answers.proofs.ListingOnly.{listing-only, listing-exact-only}
-use Rattle.capi.specs.Call.{Call, Shows}
-use Rattle.capi.specs.Shown.{
-  acceptance,
-  pair,
-  heaviest,
-  heads,
-  listing,
-  change,
+use Rattle.eight.specs.Call.{Call}
+use Rattle.eight.specs.Shown.{acceptanceInC, pairInC, heaviestInC, headsInC, listingInC, changeInC}
+use Rattle.capi.specs.Promises.{
+  ShowsInC,
   AcceptCall,
   PairCall,
   HeaviestCall,
@@ -30,37 +26,37 @@ use Rattle.capi.specs.Shown.{
   AbortCall,
 }
 
-shows-only : {O : Type 0} {Promise : O → Type 0} (inC : O → Call) → Only Promise → Only (Shows Promise inC)
+shows-only : {O : Type 0} {Promise : O → Type 0} (inC : O → Call) → Only Promise → Only (ShowsInC Promise inC)
 shows-only inC o x y p q = p .shown ∙ ap inC (o (p .outcome) (q .outcome) (p .promise) (q .promise)) ∙ sym (q .shown)
 
 pub hb-accept-only : (s : List ℕ) → Only (AcceptCall s)
-hb-accept-only s = shows-only acceptance (accept-only s)
+hb-accept-only s = shows-only acceptanceInC (accept-only s)
 
 pub hb-pair-only : (s marks : List ℕ) (a b : ℕ) → Only (PairCall s marks a b)
-hb-pair-only s marks a b = shows-only pair (pair-only s marks a b)
+hb-pair-only s marks a b = shows-only pairInC (pair-only s marks a b)
 
 pub hb-heaviest-only : (s marks : List ℕ) → Only (HeaviestCall s marks)
-hb-heaviest-only s marks = shows-only heaviest (heaviest-only s marks)
+hb-heaviest-only s marks = shows-only heaviestInC (heaviest-only s marks)
 
 pub hb-heaviest-exact-only : (s marks : List ℕ) → Only (HeaviestExactCall s marks)
-hb-heaviest-exact-only s marks = shows-only heaviest (heaviest-exact-only s marks)
+hb-heaviest-exact-only s marks = shows-only heaviestInC (heaviest-exact-only s marks)
 
 pub hb-heads-only : (s before : List ℕ) → Only (HeadsCall s before)
-hb-heads-only s before = shows-only heads (heads-only s before)
+hb-heads-only s before = shows-only headsInC (heads-only s before)
 
 pub hb-listing-only : (s marks : List ℕ) (floor : ℤ) (low high : ℕ) (old : List ℕ)
     → Only (ListingCall s marks floor low high old)
-hb-listing-only s marks floor low high old = shows-only listing (listing-only s marks floor low high old)
+hb-listing-only s marks floor low high old = shows-only listingInC (listing-only s marks floor low high old)
 
 pub hb-listing-exact-only : (s marks : List ℕ) (floor : ℤ) (low high : ℕ) (old : List ℕ)
     → Only (ListingExactCall s marks floor low high old)
-hb-listing-exact-only s marks floor low high old = shows-only listing (listing-exact-only s marks floor low high old)
+hb-listing-exact-only s marks floor low high old = shows-only listingInC (listing-exact-only s marks floor low high old)
 
 pub hb-claim-only : (s before : List ℕ) (run a b : ℕ) → Only (ClaimCall s before run a b)
-hb-claim-only s before run a b = shows-only change (claim-only s before run a b)
+hb-claim-only s before run a b = shows-only changeInC (claim-only s before run a b)
 
 pub hb-commit-only : (s before : List ℕ) (run : ℕ) → Only (CommitCall s before run)
-hb-commit-only s before run = shows-only change (commit-only s before run)
+hb-commit-only s before run = shows-only changeInC (commit-only s before run)
 
 pub hb-abort-only : (s before : List ℕ) (run : ℕ) → Only (AbortCall s before run)
-hb-abort-only s before run = shows-only change (abort-only s before run)
+hb-abort-only s before run = shows-only changeInC (abort-only s before run)

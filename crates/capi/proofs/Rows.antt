@@ -1,10 +1,12 @@
 -- The row that an outcome names is below 4,096 and its ring has no more rows than that, so that both fit a signed
--- number: a refusal names a row of the table, or 0, and a ring has rows up to the row named alone.
+-- number: a refusal of 1 to 12 names a row of the table, or 0, and a ring has rows up to the row named alone; an
+-- operation's own refusals, from 13 on, and what it gives name none.
 use Prim.Native.Nat.{ℕ}
 use mathlib.Core.List.{List}
 use native.Mathlib.Omega.{arith}
 use lib.IntN.{ℤ}
-use Rattle.tree.specs.Accept.{Outcome, refusal, Accepts}
+use Rattle.table.specs.Refuse.{Unless}
+use Rattle.tree.specs.Accept as A
 use Rattle.tree.proofs.Outcomes.{Told, by-unless, by-beginning}
 use Rattle.spines.specs.Heads as H
 use Rattle.marks.specs.Change as M
@@ -13,71 +15,62 @@ use Rattle.answers.specs.Pair as P
 use Rattle.answers.specs.Heaviest as B
 use Rattle.answers.specs.Listing as L
 use Rattle.answers.proofs.Few.{listing-few}
-use Rattle.capi.specs.Work.{Room, Storable}
+use Rattle.eight.specs.work.Room.{Room, Storable}
 
--- where no row is named
-pub nowhere : Room 0 0
+nowhere : Room 0 0
 nowhere = record { low = omega arith; few = omega arith }
 
 -- a refusal of 1 to 12
 told : (k r g : ℕ) → Told k r g → Room r g
 told k r g t = record { low = t .low; few = omega (arith, t .low, t .few) }
 
-pub accept-low : (s : List ℕ) (x : Outcome) → Accepts s x → Room (x .row) (x .ring)
-accept-low s x p = by-beginning (λ o. Room (o .row) (o .ring)) refusal s told (λ o e. rw e nowhere) p
+-- one of an operation's own, and then as the rest says
+own : {A : Type 0} (C : A → Type 0) {no : A} {Ok : Type 0} {rest : A → Type 0} → C no → ((x : A) → rest x → C x)
+    → (x : A) → Unless A no Ok rest x → C x
+own C n f x p = by-unless C n (λ _. f) p
+
+pub accept-low : (s : List ℕ) (x : A.Outcome) → A.Accepts s x → Room (x .row) (x .ring)
+accept-low s x p = by-beginning (λ o. Room (o .row) (o .ring)) A.refusal s told (λ o e. rw e nowhere) p
 
 pub pair-low : (s marks : List ℕ) (a b : ℕ) (x : P.Outcome) → P.PairOf s marks a b x → Room (x .row) (x .ring)
 pair-low s marks a b x p =
     let C : P.Outcome → Type 0 = λ o. Room (o .row) (o .ring) in
-    by-beginning C P.refusal s told
-    (λ _. by-unless C nowhere (λ _ _. by-unless C nowhere (λ _ _ h. rw (h .row, h .ring) nowhere))) p
+    by-beginning C P.refusal s told (own C nowhere (own C nowhere (λ _ h. rw (h .row, h .ring) nowhere))) p
 
 pub heaviest-low : (none : ℕ) (Within : ℕ → Type 0) (s marks : List ℕ) (x : B.Outcome)
     → B.HeaviestWithin none Within s marks x → Room (x .row) (x .ring)
 heaviest-low none Within s marks x p =
     let C : B.Outcome → Type 0 = λ o. Room (o .row) (o .ring) in
-    by-beginning C B.refusal s told
-    (λ _. by-unless C nowhere (λ _ _. by-unless C nowhere (λ _ _ h. rw (h .is) nowhere))) p
+    by-beginning C B.refusal s told (own C nowhere (own C nowhere (λ _ h. rw (h .is) nowhere))) p
 
 pub heads-low : (s before : List ℕ) (x : H.Outcome) → H.Headings s before x → Room (x .row) (x .ring)
 heads-low s before x p =
     let C : H.Outcome → Type 0 = λ o. Room (o .row) (o .ring) in
-    by-beginning C (H.refusal before) s told (λ _. by-unless C nowhere (λ _ _ h. rw (h .is) nowhere)) p
+    by-beginning C (H.refusal before) s told (own C nowhere (λ _ h. rw (h .is) nowhere)) p
 
-listing-low : (Within : ℕ → Type 0) (s marks : List ℕ) (floor : ℤ) (low high : ℕ) (old : List ℕ) (x : L.Outcome)
-    → L.ListingWithin Within s marks floor low high old x → Room (x .row) (x .ring)
-listing-low Within s marks floor low high old x p =
-    let C : L.Outcome → Type 0 = λ o. Room (o .row) (o .ring) in
-    by-beginning C (L.refusal old) s told
-    (λ _. by-unless C nowhere (λ _ _. by-unless C nowhere (λ _ _ h. rw (h .row, h .ring) nowhere))) p
-
--- and of a listing the counts fit too
+-- of a listing the counts fit too
 pub listing-storable :
     (Within : ℕ → Type 0) (s marks : List ℕ) (floor : ℤ) (low high : ℕ) (old : List ℕ) (x : L.Outcome)
     → L.ListingWithin Within s marks floor low high old x → Storable x
-listing-storable Within s marks floor low high old x p = record {
-  room = listing-low Within s marks floor low high old x p;
-  counts = λ z. omega (arith, listing-few Within s marks floor low high old x z p);
-}
+listing-storable Within s marks floor low high old x p =
+    let C : L.Outcome → Type 0 = λ o. Room (o .row) (o .ring) in
+    record {
+      room =
+          by-beginning C (L.refusal old) s told
+          (own C nowhere (own C nowhere (λ _ h. rw (h .row, h .ring) nowhere))) p;
+      counts = λ z. omega (arith, listing-few Within s marks floor low high old x z p);
+    }
 
--- claim, commit and abort
-abbrev ChangeRoom : M.Outcome → Type 0
-ChangeRoom o = Room (o .row) (o .ring)
-
-numbered-low : (n : ℕ) (before : List ℕ) (run : ℕ) {rest : M.Outcome → Type 0}
-    → ((x : M.Outcome) → rest x → ChangeRoom x) → (x : M.Outcome) → M.Numbered n before run rest x → ChangeRoom x
-numbered-low n before run f x p = by-unless ChangeRoom nowhere (λ _ _. by-unless ChangeRoom nowhere (λ _. f)) p
-
+-- commit and abort
 pub settle-low : (m : ℕ) (s before : List ℕ) (run : ℕ) (x : M.Outcome) → M.Settles m s before run x
     → Room (x .row) (x .ring)
 settle-low m s before run x p =
-    by-beginning ChangeRoom (M.refusal before) s told
-    (numbered-low _ before run (λ o h. rw (h .is) nowhere)) p
+    let C : M.Outcome → Type 0 = λ o. Room (o .row) (o .ring) in
+    by-beginning C (M.refusal before) s told (own C nowhere (own C nowhere (λ _ h. rw (h .is) nowhere))) p
 
 pub claim-low : (s before : List ℕ) (run a b : ℕ) (x : M.Outcome) → Claims s before run a b x
     → Room (x .row) (x .ring)
 claim-low s before run a b x p =
-    by-beginning ChangeRoom (M.refusal before) s told
-    (numbered-low _ before run
-    (λ _. by-unless ChangeRoom nowhere
-    (λ _ _. by-unless ChangeRoom nowhere (λ _ _. by-unless ChangeRoom nowhere (λ _ _ h. rw (h .is) nowhere))))) p
+    let C : M.Outcome → Type 0 = λ o. Room (o .row) (o .ring) in
+    by-beginning C (M.refusal before) s told
+    (own C nowhere (own C nowhere (own C nowhere (own C nowhere (own C nowhere (λ _ h. rw (h .is) nowhere)))))) p

@@ -1,12 +1,9 @@
 // The operations for C and Rust; include/hourbench.h declares them. A `&[u8]` is a pointer and a length to C, an `&mut
-// [i64; 8]` a pointer. Each function returns the refusal number (0: none) and writes all 8 of `answer`: number, row,
-// ring, the operation's fields in order, zeros.
-mod answer;
-mod shown;
-
+// [i64; 8]` a pointer. Each function calls the operation and shows its answer, by the crate eight: it returns the
+// refusal number (0: none) and writes all 8 of `answer`: number, row, ring, the operation's fields in order, zeros.
 ghost use mathlib.Core.List.{[]};
-ghost use Rattle.capi.specs.Call.{call};
-ghost use Rattle.capi.specs.Shown.{
+ghost use Rattle.eight.specs.Call.{call};
+ghost use Rattle.capi.specs.Promises.{
   AcceptCall,
   PairCall,
   HeaviestCall,
@@ -18,14 +15,12 @@ ghost use Rattle.capi.specs.Shown.{
   CommitCall,
   AbortCall,
 };
-use answer::fill;
-use answer::show_change;
-use answer::signed;
-use answers::PairAnswer;
-use shown::show_page;
-use shown::show_run;
-use spines::HeadsAnswer;
-use tree::Acceptance;
+use eight::show_acceptance;
+use eight::show_change;
+use eight::show_heads;
+use eight::show_page;
+use eight::show_pair;
+use eight::show_run;
 
 // Fields: nodes, bound.
 #[no_mangle]
@@ -33,14 +28,7 @@ pub extern "C" fn hb_accept(table: &[u8], answer: &mut [i64; 8]) -> u8
     ensures { λ r. ⌜ AcceptCall (now (table .entry)) (call r (now (answer .exit)) []) ⌝ }
 {
     let o = tree::accept(table);
-    match o {
-        Acceptance::Refused(why) => fill(answer, why.number, why.row, why.ring, 0, 0, 0, 0),
-        Acceptance::Accepted { nodes, bound } => {
-            let n = signed(nodes as u64);
-            let b = signed(bound as u64);
-            fill(answer, 0, 0, 0, n, b, 0, 0)
-        }
-    }
+    show_acceptance(o, answer)
 }
 
 // Fields: length, weight, hops.
@@ -49,18 +37,7 @@ pub extern "C" fn hb_pair(table: &[u8], marks: &[u16], a: u16, b: u16, answer: &
     ensures { λ r. ⌜ PairCall (now (table .entry)) (now (marks .entry)) a b (call r (now (answer .exit)) []) ⌝ }
 {
     let o = answers::pair(table, marks, a, b);
-    match o {
-        PairAnswer::Refused(why) => fill(answer, why.number, why.row, why.ring, 0, 0, 0, 0),
-        PairAnswer::Found {
-            length,
-            weight,
-            hops,
-        } => {
-            let l = signed(length as u64);
-            let h = signed(hops as u64);
-            fill(answer, 0, 0, 0, l, weight, h, 0)
-        }
-    }
+    show_pair(o, answer)
 }
 
 // Fields: low, high, length, weight.
@@ -88,10 +65,7 @@ pub extern "C" fn hb_heads(table: &[u8], heads: &mut [u16], answer: &mut [i64; 8
         (call r (now (answer .exit)) (now (heads .exit))) ⌝ }
 {
     let o = spines::heads(table, heads);
-    match o {
-        HeadsAnswer::Refused(why) => fill(answer, why.number, why.row, why.ring, 0, 0, 0, 0),
-        HeadsAnswer::Written => fill(answer, 0, 0, 0, 0, 0, 0, 0),
-    }
+    show_heads(o, answer)
 }
 
 // Fields: written, left; the rows into `rows`.

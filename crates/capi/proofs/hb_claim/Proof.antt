@@ -1,6 +1,7 @@
--- `hb_claim` shows what the claim gives, by `show_change`.
+-- `hb_claim` shows what the claim gives.
 use borrow.Author.Needs.{needs}
 use Rattle.capi.proofs.Rows.{claim-low}
+use Rattle.capi.proofs.Shown.{shows}
 use Rattle.capi.proofs.hb_claim.Statement.{statement}
 use Rattle.capi.proofs.hb_claim.Tie as tie
 
@@ -14,7 +15,7 @@ same-length : tie.Need-same-length
 same-length c = search needs
 
 returns : tie.Need-returns
-returns c = record { outcome = _; promise = c .before .before .before .before .claim .ensures; shown = c .show-change .ensures _ }
+returns c = shows _ (c .before .before .before .before .claim .ensures) (c .show-change .ensures _)
 
 pub hb-claim-spec : {M : Type 1} → statement M
 hb-claim-spec = tie.close (tie.spec claim-requires show-change-requires same-length returns)

@@ -1,8 +1,7 @@
--- `hb_listing_exact` shows what the operation gives, by `show_page`.
+-- `hb_listing_exact` shows what the operation listing exact gives.
 use borrow.Author.Needs.{needs}
-use mir.Syntax.{w64}
-use mir.ValLaws.{toZ-ofZ}
 use Rattle.capi.proofs.Rows.{listing-storable}
+use Rattle.capi.proofs.Shown.{shows-page}
 use Rattle.capi.proofs.hb_listing_exact.Statement.{statement}
 use Rattle.capi.proofs.hb_listing_exact.Tie as tie
 
@@ -18,16 +17,8 @@ same-length c = search needs
 returns : tie.Need-returns
 returns c =
     let listing-exact-ensures = c .before .before .before .before .listing-exact .ensures in
-    let args = c .before .before .before .before .before .before .before .before .before .args in
     let fits = c .before .before .before .before .before .before .before .before .before .fits in
-    let e = toZ-ofZ w64 (args .floor) (fits .floor) in
-    record { outcome = _; promise = rw e at listing-exact-ensures; shown = c .show-page .ensures _ }
+    shows-page _ _ _ _ _ _ _ _ (fits .floor) listing-exact-ensures (c .show-page .ensures _)
 
 pub hb-listing-exact-spec : {M : Type 1} → statement M
-hb-listing-exact-spec =
-    tie.close
-    (tie.spec
-    listing-exact-requires
-    show-page-requires
-    same-length
-    returns)
+hb-listing-exact-spec = tie.close (tie.spec listing-exact-requires show-page-requires same-length returns)

@@ -1,80 +1,18 @@
--- `hb_pair` shows what the operation pair gives: a refusal as it stands, or the fields, as signed numbers.
-use mathlib.Core.Path.{refl}
-use native.Mathlib.Omega.{arith}
+-- `hb_pair` shows what the operation pair gives.
 use borrow.Author.Needs.{needs}
-use mir.Syntax.{w64}
-use mir.ValLaws.{toZ-ofZ}
-use Rattle.capi.proofs.Rows.{nowhere, pair-low}
-use Rattle.capi.proofs.Stored.{stored, calls}
+use Rattle.capi.proofs.Rows.{pair-low}
+use Rattle.capi.proofs.Shown.{shows}
 use Rattle.capi.proofs.hb_pair.Statement.{statement}
 use Rattle.capi.proofs.hb_pair.Tie as tie
 
 pair-requires : tie.Need-pair-requires
 pair-requires c κs = search needs
 
-enum-known-o : tie.Need-enum-known-o
-enum-known-o c = search needs
-
-fill-requires : tie.Need-fill-requires
-fill-requires c κs =
-    let pair-ensures = c .before .before .before .before .pair .ensures in
-    pair-low _ _ _ _ _ (rw (c .before .before .o .given .1) at pair-ensures)
-
-enum-known-o-2 : tie.Need-enum-known-o-2
-enum-known-o-2 c = search needs
-
-cast-signed : tie.Need-cast-signed
-cast-signed c = search needs
-
-signed-requires : tie.Need-signed-requires
-signed-requires c κs = search needs
-
-cast-signed-2 : tie.Need-cast-signed-2
-cast-signed-2 c = search needs
-
-signed-requires-2 : tie.Need-signed-requires-2
-signed-requires-2 c κs = search needs
-
-fill-requires-2 : tie.Need-fill-requires-2
-fill-requires-2 c κs = nowhere
+show-pair-requires : tie.Need-show-pair-requires
+show-pair-requires c κs = pair-low _ _ _ _ _ (c .before .pair .ensures)
 
 returns : tie.Need-returns
-returns c =
-    let o-given = c .before .before .before .o .given in
-    let pair-ensures = c .before .before .before .before .before .pair .ensures in
-    record {
-      outcome = _;
-      promise = rw (o-given .1) at pair-ensures;
-      shown = calls (c .fill .ensures .0) (c .fill .ensures .1) refl;
-    }
-
-returns-2 : tie.Need-returns-2
-returns-2 c =
-    let signed-ensures = c .before .before .before .signed .ensures in
-    let known-told2-given = c .before .before .before .before .known-told2 .given in
-    let o2-given = c .before .before .before .before .before .o2 .given in
-    let pair-ensures = c .before .before .before .before .before .before .before .pair .ensures in
-    let l = stored _ _ signed-ensures (omega arith) in
-    let h = stored _ _ (c .before .before .signed2 .ensures) (omega arith) in
-    let w = toZ-ofZ w64 (o2-given .0 .1 .0) (record { sfits = known-told2-given .1 .0 .1 }) in
-    record {
-      outcome = _;
-      promise = rw (o2-given .1) at pair-ensures;
-      shown = calls (c .fill2 .ensures .0) (rw (l, w, h) at (c .fill2 .ensures .1)) refl;
-    }
+returns c = shows _ (c .before .before .pair .ensures) (c .show-pair .ensures)
 
 pub hb-pair-spec : {M : Type 1} → statement M
-hb-pair-spec =
-    tie.close
-    (tie.spec
-    pair-requires
-    enum-known-o
-    fill-requires
-    enum-known-o-2
-    cast-signed
-    signed-requires
-    cast-signed-2
-    signed-requires-2
-    fill-requires-2
-    returns
-    returns-2)
+hb-pair-spec = tie.close (tie.spec pair-requires show-pair-requires returns)

@@ -1,4 +1,4 @@
--- Working statements of the private functions that write an answer, and no part of the promises: what it has room for.
+-- What an answer has room for: the three numbers of a refusal, and a listing's counts, as signed numbers of 64 bits.
 use Prim.Native.Nat.{ℕ, _+_, _≤_, _<_}
 use mathlib.Core.Path.{_≡_}
 use Rattle.answers.specs.Listing.{Outcome}

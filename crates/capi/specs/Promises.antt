@@ -1,0 +1,50 @@
+-- Each C function's promise: it shows an outcome that the operation's own promise allows.
+use Prim.Native.Nat.{ℕ}
+use mathlib.Core.Path.{_≡_}
+use mathlib.Core.List.{List}
+use lib.IntN.{ℤ}
+use Rattle.tree.specs.Accept.{Accepts}
+use Rattle.spines.specs.Heads.{Headings}
+use Rattle.marks.specs.Change.{Commits, Aborts}
+use Rattle.marks.specs.Claim.{Claims}
+use Rattle.answers.specs.Pair.{PairOf}
+use Rattle.answers.specs.Heaviest.{HeaviestOf, HeaviestExactOf}
+use Rattle.answers.specs.Listing.{ListingOf, ListingExactOf}
+use Rattle.eight.specs.Call.{Call}
+use Rattle.eight.specs.Shown.{acceptanceInC, pairInC, heaviestInC, headsInC, listingInC, changeInC}
+
+-- a call leaves what an outcome that the operation's own promise allows is in C
+pub record ShowsInC {O : Type 0} (Promise : O → Type 0) (inC : O → Call) (c : Call) : Type 0 where
+  pub outcome : O
+  pub promise : Promise outcome
+  pub shown : c ≡ inC outcome
+
+abbrev pub AcceptCall : List ℕ → Call → Type 0
+AcceptCall s = ShowsInC (Accepts s) acceptanceInC
+
+abbrev pub PairCall : List ℕ → List ℕ → ℕ → ℕ → Call → Type 0
+PairCall s marks a b = ShowsInC (PairOf s marks a b) pairInC
+
+abbrev pub HeaviestCall : List ℕ → List ℕ → Call → Type 0
+HeaviestCall s marks = ShowsInC (HeaviestOf s marks) heaviestInC
+
+abbrev pub HeaviestExactCall : List ℕ → List ℕ → Call → Type 0
+HeaviestExactCall s marks = ShowsInC (HeaviestExactOf s marks) heaviestInC
+
+abbrev pub HeadsCall : List ℕ → List ℕ → Call → Type 0
+HeadsCall s before = ShowsInC (Headings s before) headsInC
+
+abbrev pub ListingCall : List ℕ → List ℕ → ℤ → ℕ → ℕ → List ℕ → Call → Type 0
+ListingCall s marks floor low high old = ShowsInC (ListingOf s marks floor low high old) listingInC
+
+abbrev pub ListingExactCall : List ℕ → List ℕ → ℤ → ℕ → ℕ → List ℕ → Call → Type 0
+ListingExactCall s marks floor low high old = ShowsInC (ListingExactOf s marks floor low high old) listingInC
+
+abbrev pub ClaimCall : List ℕ → List ℕ → ℕ → ℕ → ℕ → Call → Type 0
+ClaimCall s before run a b = ShowsInC (Claims s before run a b) changeInC
+
+abbrev pub CommitCall : List ℕ → List ℕ → ℕ → Call → Type 0
+CommitCall s before run = ShowsInC (Commits s before run) changeInC
+
+abbrev pub AbortCall : List ℕ → List ℕ → ℕ → Call → Type 0
+AbortCall s before run = ShowsInC (Aborts s before run) changeInC

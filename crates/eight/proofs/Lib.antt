@@ -1,0 +1,2 @@
+-- Laws of the eight numbers.
+pub mod Counts

@@ -1,0 +1,51 @@
+-- `show_page` shows a refusal as it stands, or the fields as signed numbers, which they fit by `counts-fit`.
+use mir.Syntax.{w64}
+use mir.ValLaws.{toZ-pos}
+use borrow.Author.Needs.{needs}
+use Rattle.eight.proofs.Counts.{counts-fit}
+use Rattle.eight.proofs.show_page.Statement.{statement}
+use Rattle.eight.proofs.show_page.Tie as tie
+
+enum-known-o : tie.Need-enum-known-o
+enum-known-o c = search needs
+
+refuse-requires : tie.Need-refuse-requires
+refuse-requires c κs = rw (c .before .before .o .given .1) at (c .before .before .before .before .pre .1 .room)
+
+enum-known-o-2 : tie.Need-enum-known-o-2
+enum-known-o-2 c = search needs
+
+cast-fill : tie.Need-cast-fill
+cast-fill c =
+    let pre = c .before .before .before .before .pre in
+    record { sfits = counts-fit pre (c .before .before .o2 .given .1) .0 }
+
+cast-fill-2 : tie.Need-cast-fill-2
+cast-fill-2 c =
+    let pre = c .before .before .before .before .pre in
+    record { sfits = counts-fit pre (c .before .before .o2 .given .1) .1 }
+
+fill-requires : tie.Need-fill-requires
+fill-requires c κs = search needs
+
+returns : tie.Need-returns
+returns c = rw (c .before .before .before .o .given .1) (c .refuse .ensures)
+
+returns-2 : tie.Need-returns-2
+returns-2 c =
+    let o2-given = c .before .before .before .o2 .given in
+    let few = counts-fit (c .before .before .before .before .before .pre) (o2-given .1) in
+    rw (o2-given .1) (rw (toZ-pos w64 _ (few .0), toZ-pos w64 _ (few .1)) at (c .fill .ensures))
+
+pub show-page-spec : {M : Type 1} → statement M
+show-page-spec =
+    tie.close
+    (tie.spec
+    enum-known-o
+    refuse-requires
+    enum-known-o-2
+    cast-fill
+    cast-fill-2
+    fill-requires
+    returns
+    returns-2)

@@ -1,0 +1,121 @@
+// What an operation gave, as the eight numbers that C gets: number, row, ring, the operation's fields in order, zeros.
+// One function for each kind of answer; each returns the refusal's number, 0 where nothing is refused.
+mod answer;
+
+ghost use mathlib.Core.Path.{_≡_};
+ghost use mathlib.Core.List.{List, []};
+ghost use Prim.Native.Nat.{ℕ};
+ghost use Rattle.tree.specs.Accept as Accept;
+ghost use Rattle.spines.specs.Heads as Heads;
+ghost use Rattle.marks.specs.Change as Changing;
+ghost use Rattle.answers.specs.Pair as Pair;
+ghost use Rattle.answers.specs.Heaviest as Heaviest;
+ghost use Rattle.answers.specs.Listing as Listing;
+ghost use Rattle.eight.specs.Call.{call};
+ghost use Rattle.eight.specs.Shown.{
+  acceptanceInC,
+  pairInC,
+  heaviestInC,
+  headsInC,
+  listingInC,
+  changeInC,
+};
+ghost use Rattle.eight.specs.work.Room.{Room, Storable};
+use crate::answer::fill;
+use crate::answer::refuse;
+use answers::Listed;
+use answers::PairAnswer;
+use answers::Run;
+use marks::Change;
+use spines::HeadsAnswer;
+use tree::Acceptance;
+
+// Acceptance: the refusal, or nodes, bound.
+pub fn show_acceptance(o: Acceptance, answer: &mut [i64; 8]) -> u8
+    requires { ⌜ Room ((Accept.outcome o) .row) ((Accept.outcome o) .ring) ⌝ }
+    ensures { λ r. ⌜ call r (now (answer .exit)) [] ≡ acceptanceInC (Accept.outcome o) ⌝ }
+{
+    match o {
+        Acceptance::Refused(why) => refuse(why, answer),
+        Acceptance::Accepted { nodes, bound } => {
+            fill(answer, 0, 0, 0, nodes as i64, bound as i64, 0, 0)
+        }
+    }
+}
+
+// A pair: the refusal, or length, weight, hops.
+pub fn show_pair(o: PairAnswer, answer: &mut [i64; 8]) -> u8
+    requires { ⌜ Room ((Pair.outcome o) .row) ((Pair.outcome o) .ring) ⌝ }
+    ensures { λ r. ⌜ call r (now (answer .exit)) [] ≡ pairInC (Pair.outcome o) ⌝ }
+{
+    match o {
+        PairAnswer::Refused(why) => refuse(why, answer),
+        PairAnswer::Found {
+            length,
+            weight,
+            hops,
+        } => { fill(answer, 0, 0, 0, length as i64, weight, hops as i64, 0) }
+    }
+}
+
+// A run: the refusal, or low, high, length, weight.
+pub fn show_run(o: Run, answer: &mut [i64; 8]) -> u8
+    requires { ⌜ Room ((Heaviest.outcome o) .row) ((Heaviest.outcome o) .ring) ⌝ }
+    ensures { λ r. ⌜ call r (now (answer .exit)) [] ≡ heaviestInC (Heaviest.outcome o) ⌝ }
+{
+    match o {
+        Run::Refused(why) => refuse(why, answer),
+        Run::Between {
+            low,
+            high,
+            length,
+            weight,
+        } => {
+            fill(
+                answer,
+                0,
+                0,
+                0,
+                low as i64,
+                high as i64,
+                length as i64,
+                weight,
+            )
+        }
+    }
+}
+
+// Heads: the refusal, or no fields.
+pub fn show_heads(o: HeadsAnswer, answer: &mut [i64; 8]) -> u8
+    requires { ⌜ ((list : List ℕ) × Room ((Heads.outcome o list) .row) ((Heads.outcome o list) .ring)) ⌝ }
+    ensures { λ r. ⌜ ((list : List ℕ) → call r (now (answer .exit)) list ≡ headsInC (Heads.outcome o list)) ⌝ }
+{
+    match o {
+        HeadsAnswer::Refused(why) => refuse(why, answer),
+        HeadsAnswer::Written => fill(answer, 0, 0, 0, 0, 0, 0, 0),
+    }
+}
+
+// A page: the refusal, or written, left.
+pub fn show_page(o: Listed, answer: &mut [i64; 8]) -> u8
+    requires { ⌜ ((rows : List ℕ) × Storable (Listing.outcome o rows)) ⌝ }
+    ensures { λ r. ⌜ ((rows : List ℕ) → call r (now (answer .exit)) rows ≡ listingInC (Listing.outcome o rows)) ⌝ }
+{
+    match o {
+        Listed::Refused(why) => refuse(why, answer),
+        Listed::Rows { written, left } => {
+            fill(answer, 0, 0, 0, written as i64, left as i64, 0, 0)
+        }
+    }
+}
+
+// What claim, commit or abort gave: the refusal, or how many marks changed.
+pub fn show_change(o: Change, answer: &mut [i64; 8]) -> u8
+    requires { ⌜ ((marks : List ℕ) × Room ((Changing.outcome o marks) .row) ((Changing.outcome o marks) .ring)) ⌝ }
+    ensures { λ r. ⌜ ((marks : List ℕ) → call r (now (answer .exit)) marks ≡ changeInC (Changing.outcome o marks)) ⌝ }
+{
+    match o {
+        Change::Refused(why) => refuse(why, answer),
+        Change::Changed(count) => { fill(answer, 0, 0, 0, count as i64, 0, 0, 0) }
+    }
+}
