@@ -17,13 +17,13 @@ enum-known-o-2 c = search needs
 
 cast-fill : tie.Need-cast-fill
 cast-fill c =
-    let pre = c .before .before .before .before .pre in
-    record { sfits = counts-fit pre (c .before .before .o2 .given .1) .0 }
+    let few = counts-fit (c .before .before .before .before .pre) (c .before .before .o2 .given .1) in
+    record { sfits = search (few .0, few .1) }
 
 cast-fill-2 : tie.Need-cast-fill-2
 cast-fill-2 c =
-    let pre = c .before .before .before .before .pre in
-    record { sfits = counts-fit pre (c .before .before .o2 .given .1) .1 }
+    let few = counts-fit (c .before .before .before .before .pre) (c .before .before .o2 .given .1) in
+    record { sfits = search (few .0, few .1) }
 
 fill-requires : tie.Need-fill-requires
 fill-requires c κs = search needs
