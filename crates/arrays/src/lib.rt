@@ -1,4 +1,5 @@
-// Fixed arrays of 4,096 places, one for each node: filled whole with one value, and the two widenings with which their elements are read.
+// Fixed arrays of 4,096 places, one for each node: filled whole with one value, and the two widenings with which their
+// elements are read.
 ghost use mathlib.Core.Path.{_≡_};
 ghost use Prim.Native.Nat.{_<_};
 ghost use Rattle.arrays.specs.Filled.{Filled};

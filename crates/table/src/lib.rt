@@ -1,5 +1,6 @@
-// The branch table, version 1: bytes to header and rows. Refusals 1 to 10, the part of a row, a decoded row and its lifted weight, and the reader that holds the table.
-// Every function takes any bytes and any number; none asks anything of its caller.
+// The branch table, version 1: bytes to header and rows. Refusals 1 to 10, the part of a row, a decoded row and its
+// lifted weight, and the reader that holds the table. Every function takes any bytes and any number; none asks anything
+// of its caller.
 ghost use mathlib.Core.Path.{_≡_};
 ghost use Prim.Native.Nat.{_+_, _*_, _≤_, _<_};
 ghost use lib.ListN.{length};
@@ -165,7 +166,8 @@ pub fn row_at(s: &[u8], row: usize) -> Row
     }
 }
 
-// A row's weight lifted by 1,000,000, read straight from its bytes; 0 where there is no such row or its weight is out of range.
+// A row's weight lifted by 1,000,000, read straight from its bytes; 0 where there is no such row or its weight is out
+// of range.
 pub fn lifted_at(s: &[u8], row: usize) -> u32
     ensures { λ q. ⌜ LiftedOf (now (s .entry)) row q ⌝ }
 {
@@ -272,15 +274,19 @@ pub struct Reader<'a> {
 
 // Opens a reader at row 0.
 pub fn read_from<'a>(table: &'a [u8]) -> Reader<'a>
-    ensures { λ r. ⌜ HeldOf (now (table .entry)) (ptr (table .entry)) (now (r .table)) (ptr (r .table)) × (r .row ≡ 0) ⌝ }
+    ensures { λ r. ⌜ HeldOf (now (table .entry)) (ptr (table .entry)) (now (r .table)) (ptr (r .table))
+        × (r .row ≡ 0) ⌝ }
 {
     let t = held(table);
     Reader { table: t, row: 0 }
 }
 
-// Hands back the caller's own 12 bytes of the row it stands at and moves on by one; where none stand there, an empty part, and stays.
+// Hands back the caller's own 12 bytes of the row it stands at and moves on by one; where none stand there, an empty
+// part, and stays.
 pub fn step<'s, 'a>(r: &'s mut Reader<'a>) -> &'a [u8]
-    ensures { λ q. ⌜ (now (r .exit) .table ≡ now (r .entry) .table) × Stepped (now (now (r .entry) .table)) (ptr (now (r .entry) .table)) (now (r .entry) .row) (now q) (ptr q) (now (r .exit) .row) ⌝ }
+    ensures { λ q. ⌜ (now (r .exit) .table ≡ now (r .entry) .table)
+        × Stepped (now (now (r .entry) .table)) (ptr (now (r .entry) .table)) (now (r .entry) .row) (now q) (ptr q)
+        (now (r .exit) .row) ⌝ }
 {
     let t = r.table;
     let k = r.row;

@@ -1,4 +1,5 @@
--- `table::held` meets its contract: a refused header gives the empty part at the table's own place, an opened one the whole table.
+-- `table::held` meets its contract: a refused header gives the empty part at the table's own place, an opened one the
+-- whole table.
 use Rattle.table.proofs.Accepted.{opened, refused-header, past-header, take-all}
 use mathlib.Core.List.{[]}
 use native.Mathlib.Nat.{zero-add}
@@ -35,10 +36,24 @@ part-result-end-2 : tie.Need-part-result-end-2
 part-result-end-2 c = search needs
 
 returns : tie.Need-returns
-returns c = record { own = rw zero-add refl; bytes = refused-header (λ _ _. []) (c .before .before .before .before .before .args .s .now) _ (rw (c .before .enum-told .given .1) at (c .before .before .before .open-table .ensures)) }
+returns c =
+    let open-table-ensures = c .before .before .before .open-table .ensures in
+    let args = c .before .before .before .before .before .args in
+    record {
+      own = rw zero-add refl;
+      bytes = refused-header (λ _ _. []) (args .s .now) _ (rw (c .before .enum-told .given .1) at open-table-ensures);
+    }
 
 returns-2 : tie.Need-returns-2
-returns-2 c = record { own = rw zero-add refl; bytes = past-header (λ _ _. []) {s = c .before .before .before .before .before .args .s .now} (opened (c .before .before .before .before .before .args .s .now) _ _ (rw (c .before .enum-told2 .given .1) at (c .before .before .before .open-table .ensures)) .0) (take-all (c .before .before .before .before .before .args .s .now)) }
+returns-2 c =
+    let open-table-ensures = c .before .before .before .open-table .ensures in
+    let args = c .before .before .before .before .before .args in
+    record {
+      own = rw zero-add refl;
+      bytes = past-header (λ _ _. []) {s = args .s .now}
+          (opened (args .s .now) _ _ (rw (c .before .enum-told2 .given .1) at open-table-ensures) .0)
+          (take-all (args .s .now));
+    }
 
 pub held-spec : {M : Type 1} → statement M
 held-spec =

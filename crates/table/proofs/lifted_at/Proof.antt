@@ -1,4 +1,5 @@
--- `table::lifted_at` meets its contract: the bits of a weight in range are at most 1,000,000, or at least 2^32 - 1,000,000, and both lift by the same difference.
+-- `table::lifted_at` meets its contract: the bits of a weight in range are at most 1,000,000, or at least 2^32 -
+-- 1,000,000, and both lift by the same difference.
 use Prim.Native.Nat.{_*_, _+_}
 use Rattle.table.specs.Bytes.{u32At}
 use Rattle.table.proofs.Lift.{same}
@@ -26,19 +27,48 @@ add-result : tie.Need-add-result
 add-result c = search needs
 
 returns : tie.Need-returns
-returns c = let u = u32At (c .before .before .before .before .before .args .s .now) (20 + 12 * c .before .before .before .before .before .args .row) in let e : c .before .u32-at .result ≡ u = c .before .u32-at .ensures in
-    record { lifts = λ h w. same (omega arith) (bits-diff-low u (omega arith)); small = omega arith; none = λ n. absurd (n (c .before .before .before .stands .ensures .there (c .before .before .if1 .taken)) (within-low u (omega arith))) }
+returns c =
+    let stands-ensures = c .before .before .before .stands .ensures in
+    let args = c .before .before .before .before .before .args in
+    let u = u32At (args .s .now) (20 + 12 * args .row) in
+    let e : c .before .u32-at .result ≡ u = c .before .u32-at .ensures in
+    record {
+      lifts = λ h w. same (omega arith) (bits-diff-low u (omega arith));
+      small = omega arith;
+      none = λ n. absurd (n (stands-ensures .there (c .before .before .if1 .taken)) (within-low u (omega arith)));
+    }
 
 returns-2 : tie.Need-returns-2
-returns-2 c = let u = u32At (c .before .before .before .before .before .before .args .s .now) (20 + 12 * c .before .before .before .before .before .before .args .row) in let e : c .before .before .u32-at .result ≡ u = c .before .before .u32-at .ensures in
-    record { lifts = λ h w. same (omega arith) (bits-diff-high u (omega arith) (omega arith)); small = omega arith; none = λ n. absurd (n (c .before .before .before .before .stands .ensures .there (c .before .before .before .if1 .taken)) (within-high u (omega arith) (omega arith))) }
+returns-2 c =
+    let if1-taken = c .before .before .before .if1 .taken in
+    let stands-ensures = c .before .before .before .before .stands .ensures in
+    let args = c .before .before .before .before .before .before .args in
+    let u = u32At (args .s .now) (20 + 12 * args .row) in
+    let e : c .before .before .u32-at .result ≡ u = c .before .before .u32-at .ensures in
+    record {
+      lifts = λ h w. same (omega arith) (bits-diff-high u (omega arith) (omega arith));
+      small = omega arith;
+      none = λ n. absurd (n (stands-ensures .there if1-taken) (within-high u (omega arith) (omega arith)));
+    }
 
 returns-3 : tie.Need-returns-3
-returns-3 c = let u = u32At (c .before .before .before .before .before .before .args .s .now) (20 + 12 * c .before .before .before .before .before .before .args .row) in let e : c .before .before .u32-at .result ≡ u = c .before .before .u32-at .ensures in
-    record { lifts = λ h w. absurd (⊎-elim (λ k. omega arith) (λ k. omega arith) (within-bits u (omega arith) w)); small = omega arith; none = λ n. refl }
+returns-3 c =
+    let args = c .before .before .before .before .before .before .args in
+    let u = u32At (args .s .now) (20 + 12 * args .row) in
+    let e : c .before .before .u32-at .result ≡ u = c .before .before .u32-at .ensures in
+    record {
+      lifts = λ h w. absurd (⊎-elim (λ k. omega arith) (λ k. omega arith) (within-bits u (omega arith) w));
+      small = omega arith;
+      none = λ n. refl;
+    }
 
 returns-4 : tie.Need-returns-4
-returns-4 c = record { lifts = λ h w. absurd (c .before .stands .ensures .none (c .if1 .left) h); small = omega arith; none = λ n. refl }
+returns-4 c =
+    record {
+      lifts = λ h w. absurd (c .before .stands .ensures .none (c .if1 .left) h);
+      small = omega arith;
+      none = λ n. refl;
+    }
 
 pub lifted-at-spec : {M : Type 1} → statement M
 lifted-at-spec =

@@ -23,13 +23,23 @@ sub-result : tie.Need-sub-result
 sub-result c = minus-fits w64 (8589934591 - c .before .before .args .x) (omega arith)
 
 returns-2 : tie.Need-returns-2
-returns-2 c = record { back = λ h. rw (minus-is w64 (8589934591 - c .before .before .args .x) (omega arith)) (down (8589934591 - c .before .before .args .x) (omega arith)); none = λ h. absurd (omega arith) }
+returns-2 c =
+    let args = c .before .before .args in
+    record {
+      back = λ h. rw (minus-is w64 (8589934591 - args .x) (omega arith)) (down (8589934591 - args .x) (omega arith));
+      none = λ h. absurd (omega arith);
+    }
 
 cast-result : tie.Need-cast-result
 cast-result c = search needs
 
 returns-3 : tie.Need-returns-3
-returns-3 c = record { back = λ h. rw (toZ-pos w64 (c .before .before .args .x - 8589934592) (omega arith)) (up (c .before .before .args .x - 8589934592) (omega arith)); none = λ h. absurd (omega arith) }
+returns-3 c =
+    let args = c .before .before .args in
+    record {
+      back = λ h. rw (toZ-pos w64 (args .x - 8589934592) (omega arith)) (up (args .x - 8589934592) (omega arith));
+      none = λ h. absurd (omega arith);
+    }
 
 pub lowered-spec : {M : Type 1} → statement M
 lowered-spec = tie.close (tie.spec returns sub-m cast-m sub-result returns-2 cast-result returns-3)

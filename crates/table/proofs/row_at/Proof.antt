@@ -1,4 +1,5 @@
--- `table::row_at` meets its contract: each of the four numbers is read at its place of the row, and the weight is its 32 bits in two's complement.
+-- `table::row_at` meets its contract: each of the four numbers is read at its place of the row, and the weight is its
+-- 32 bits in two's complement.
 use mir.Syntax.{w32}
 use mir.Val.{toZ}
 use Rattle.table.proofs.Bits.{made}
@@ -33,25 +34,55 @@ u16-at-requires : tie.Need-u16-at-requires
 u16-at-requires c κs = omega (arith, c .before .before .before .stands .ensures .there (c .before .before .if1 .taken))
 
 mul-u16-at-2 : tie.Need-mul-u16-at-2
-mul-u16-at-2 c = omega (arith, c .before .before .before .before .stands .ensures .there (c .before .before .before .if1 .taken))
+mul-u16-at-2 c =
+    let if1-taken = c .before .before .before .if1 .taken in
+    let stands-ensures = c .before .before .before .before .stands .ensures in
+    omega (arith, stands-ensures .there if1-taken)
 
 add-u16-at-2 : tie.Need-add-u16-at-2
-add-u16-at-2 c = omega (arith, c .before .before .before .before .stands .ensures .there (c .before .before .before .if1 .taken))
+add-u16-at-2 c =
+    let if1-taken = c .before .before .before .if1 .taken in
+    let stands-ensures = c .before .before .before .before .stands .ensures in
+    omega (arith, stands-ensures .there if1-taken)
 
 u16-at-requires-2 : tie.Need-u16-at-requires-2
-u16-at-requires-2 c κs = omega (arith, c .before .before .before .before .stands .ensures .there (c .before .before .before .if1 .taken))
+u16-at-requires-2 c κs =
+    let if1-taken = c .before .before .before .if1 .taken in
+    let stands-ensures = c .before .before .before .before .stands .ensures in
+    omega (arith, stands-ensures .there if1-taken)
 
 mul-u32-at-2 : tie.Need-mul-u32-at-2
-mul-u32-at-2 c = omega (arith, c .before .before .before .before .before .stands .ensures .there (c .before .before .before .before .if1 .taken))
+mul-u32-at-2 c =
+    let if1-taken = c .before .before .before .before .if1 .taken in
+    let stands-ensures = c .before .before .before .before .before .stands .ensures in
+    omega (arith, stands-ensures .there if1-taken)
 
 add-u32-at-2 : tie.Need-add-u32-at-2
-add-u32-at-2 c = omega (arith, c .before .before .before .before .before .stands .ensures .there (c .before .before .before .before .if1 .taken))
+add-u32-at-2 c =
+    let if1-taken = c .before .before .before .before .if1 .taken in
+    let stands-ensures = c .before .before .before .before .before .stands .ensures in
+    omega (arith, stands-ensures .there if1-taken)
 
 u32-at-requires-2 : tie.Need-u32-at-requires-2
-u32-at-requires-2 c κs = omega (arith, c .before .before .before .before .before .stands .ensures .there (c .before .before .before .before .if1 .taken))
+u32-at-requires-2 c κs =
+    let if1-taken = c .before .before .before .before .if1 .taken in
+    let stands-ensures = c .before .before .before .before .before .stands .ensures in
+    omega (arith, stands-ensures .there if1-taken)
 
 returns : tie.Need-returns
-returns c = record { there = λ _. made (c .before .before .before .before .before .before .before .before .args .s .now) (c .before .before .before .before .before .before .before .before .args .row) _ _ _ _ (record { sfits = c .before .before .before .signed .ok }) (c .before .before .u16-at .ensures) (c .before .u16-at2 .ensures) (c .u32-at2 .ensures) (c .before .before .before .signed .ensures ∙ ap (toZ w32) (c .before .before .before .before .u32-at .ensures)); none = λ n. absurd (n (c .before .before .before .before .before .before .stands .ensures .there (c .before .before .before .before .before .if1 .taken))) }
+returns c =
+    let signed-ensures = c .before .before .before .signed .ensures in
+    let signed-ok = c .before .before .before .signed .ok in
+    let u32-at-ensures = c .before .before .before .before .u32-at .ensures in
+    let if1-taken = c .before .before .before .before .before .if1 .taken in
+    let stands-ensures = c .before .before .before .before .before .before .stands .ensures in
+    let args = c .before .before .before .before .before .before .before .before .args in
+    record {
+      there = λ _. made (args .s .now) (args .row) _ _ _ _ (record { sfits = signed-ok })
+          (c .before .before .u16-at .ensures) (c .before .u16-at2 .ensures) (c .u32-at2 .ensures)
+          (signed-ensures ∙ ap (toZ w32) u32-at-ensures);
+      none = λ n. absurd (n (stands-ensures .there if1-taken));
+    }
 
 returns-2 : tie.Need-returns-2
 returns-2 c = record { there = λ h. absurd (c .before .stands .ensures .none (c .if1 .left) h); none = λ _. refl }

@@ -1,4 +1,5 @@
--- `table::row_number` meets its contract: as in the header, the tests passed are the good conditions, and the test taken refutes the next.
+-- `table::row_number` meets its contract: as in the header, the tests passed are the good conditions, and the test
+-- taken refutes the next.
 use Rattle.table.specs.Refuse.{refused, passed}
 use Rattle.table.specs.Bytes.{u32At}
 use Rattle.table.proofs.Bits.{within-low, within-high, within-bits}
@@ -59,13 +60,29 @@ u32-at-requires-2 : tie.Need-u32-at-requires-2
 u32-at-requires-2 c κs = search needs
 
 returns-5 : tie.Need-returns-5
-returns-5 c = passed (omega arith, omega arith) (passed (λ e. omega (arith, e)) (passed (omega arith) (passed (within-low (u32At (c .before .before .before .before .before .before .before .before .before .before .args .s .now) (20 + 12 * c .before .before .before .before .before .before .before .before .before .before .args .r)) (omega arith)) refl)))
+returns-5 c =
+    let args = c .before .before .before .before .before .before .before .before .before .before .args in
+    passed (omega arith, omega arith)
+    (passed (λ e. omega (arith, e))
+    (passed (omega arith) (passed (within-low (u32At (args .s .now) (20 + 12 * args .r)) (omega arith)) refl)))
 
 returns-6 : tie.Need-returns-6
-returns-6 c = passed (omega arith, omega arith) (passed (λ e. omega (arith, e)) (passed (omega arith) (passed (within-high (u32At (c .before .before .before .before .before .before .before .before .before .before .before .args .s .now) (20 + 12 * c .before .before .before .before .before .before .before .before .before .before .before .args .r)) (omega arith) (omega arith)) refl)))
+returns-6 c =
+    let args = c .before .before .before .before .before .before .before .before .before .before .before .args in
+    passed (omega arith, omega arith)
+    (passed (λ e. omega (arith, e))
+    (passed (omega arith)
+    (passed (within-high (u32At (args .s .now) (20 + 12 * args .r)) (omega arith) (omega arith)) refl)))
 
 returns-7 : tie.Need-returns-7
-returns-7 c = passed (omega arith, omega arith) (passed (λ e. omega (arith, e)) (passed (omega arith) (refused (λ n. ⊎-elim (λ h. omega arith) (λ h. omega arith) (within-bits (u32At (c .before .before .before .before .before .before .before .before .before .before .before .args .s .now) (20 + 12 * c .before .before .before .before .before .before .before .before .before .before .before .args .r)) (omega arith) n)))))
+returns-7 c =
+    let args = c .before .before .before .before .before .before .before .before .before .before .before .args in
+    passed (omega arith, omega arith)
+    (passed (λ e. omega (arith, e))
+    (passed (omega arith)
+    (refused
+    (λ n. ⊎-elim (λ h. omega arith) (λ h. omega arith)
+    (within-bits (u32At (args .s .now) (20 + 12 * args .r)) (omega arith) n)))))
 
 pub row-number-spec : {M : Type 1} → statement M
 row-number-spec =

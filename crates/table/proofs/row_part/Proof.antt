@@ -1,5 +1,5 @@
--- `table::row_part` meets its contract. Where the row stands, its 12 bytes are the part from 12 + 12 r on, which lies that far into the table; else the
--- part is empty and lies where the table does.
+-- `table::row_part` meets its contract. Where the row stands, its 12 bytes are the part from 12 + 12 r on, which lies
+-- that far into the table; else the part is empty and lies where the table does.
 use Prim.Native.Nat.{_*_, _+_, _-_}
 use mathlib.Core.Path.{_≡_, refl}
 use native.Mathlib.Omega.{arith}
@@ -29,7 +29,9 @@ part-result-end : tie.Need-part-result-end
 part-result-end c = omega (arith, c .before .stands .ensures .there (c .if1 .taken))
 
 returns : tie.Need-returns
-returns c = let e : 12 + 12 * c .before .before .before .before .args .row + 12 - (12 + 12 * c .before .before .before .before .args .row) ≡ 12 = omega arith in
+returns c =
+    let args = c .before .before .before .before .args in
+    let e : 12 + 12 * args .row + 12 - (12 + 12 * args .row) ≡ 12 = omega arith in
     let h = c .before .before .stands .ensures .there (c .before .if1 .taken) in
     record { bytes = λ _. rw e refl; own = λ _. refl; none = λ n. absurd (n h); none-at = λ n. absurd (n h) }
 
@@ -43,7 +45,9 @@ part-result-end-2 : tie.Need-part-result-end-2
 part-result-end-2 c = search needs
 
 returns-2 : tie.Need-returns-2
-returns-2 c = let n = c .before .before .stands .ensures .none (c .before .if1 .left) in record { bytes = λ h. absurd (n h); own = λ h. absurd (n h); none = λ _. refl; none-at = λ _. refl }
+returns-2 c =
+    let n = c .before .before .stands .ensures .none (c .before .if1 .left) in
+    record { bytes = λ h. absurd (n h); own = λ h. absurd (n h); none = λ _. refl; none-at = λ _. refl }
 
 pub row-part-spec : {M : Type 1} → statement M
 row-part-spec =

@@ -1,4 +1,5 @@
--- `table::rows` meets its contract. The loop's invariant: every row below r has the number 0. A row with another number is the first such.
+-- `table::rows` meets its contract. The loop's invariant: every row below r has the number 0. A row with another number
+-- is the first such.
 use Rattle.table.specs.Examine.{RowNumber}
 use Rattle.table.specs.Refuse.{bad, fine}
 use Rattle.table.specs.Row.{rowAt}
@@ -26,7 +27,10 @@ row-number-requires : tie.Need-row-number-requires Inv-loop μ-loop
 row-number-requires c κs = search needs
 
 returns : tie.Need-returns Inv-loop μ-loop
-returns c = bad (c .before .before .before .loop .r) _ (omega arith) (c .before .before .before .loop .inv .1) (c .before .row-number .ensures) (c .if1 .taken)
+returns c =
+    let loop-inv = c .before .before .before .loop .inv in
+    let loop-r = c .before .before .before .loop .r in
+    bad loop-r _ (omega arith) (loop-inv .1) (c .before .row-number .ensures) (c .if1 .taken)
 
 add-r : tie.Need-add-r Inv-loop μ-loop
 add-r c = omega arith
@@ -35,7 +39,9 @@ loop-less : tie.Need-loop-less Inv-loop μ-loop
 loop-less c = omega arith
 
 loop-again : tie.Need-loop-again Inv-loop μ-loop
-loop-again c = (omega arith, below-more _ _ (c .before .before .before .loop .inv .1) (rw (c .if1 .left) at (c .before .row-number .ensures)))
+loop-again c =
+    let loop-inv = c .before .before .before .loop .inv in
+    (omega arith, below-more _ _ (loop-inv .1) (rw (c .if1 .left) at (c .before .row-number .ensures)))
 
 returns-2 : tie.Need-returns-2 Inv-loop μ-loop
 returns-2 c = fine (λ i h. c .before .loop .inv .1 i (omega arith)) refl

@@ -25,7 +25,10 @@ sub-result : tie.Need-sub-result
 sub-result c = minus-fits w32 (4294967295 - c .before .args .u) (omega arith)
 
 returns-2 : tie.Need-returns-2
-returns-2 c = minus-is w32 (4294967295 - c .before .args .u) (omega arith) ∙ sym (bits-high (c .before .args .u) (omega arith) ∙ ap negsuc (omega arith))
+returns-2 c =
+    let args = c .before .args in
+    minus-is w32 (4294967295 - args .u) (omega arith)
+    ∙ sym (bits-high (args .u) (omega arith) ∙ ap negsuc (omega arith))
 
 pub signed-spec : {M : Type 1} → statement M
 signed-spec = tie.close (tie.spec cast-result returns sub-m cast-m sub-result returns-2)

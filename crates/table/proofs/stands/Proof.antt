@@ -1,4 +1,5 @@
--- `table::stands` meets its contract: 24 + 12 r is at most the length exactly if the length is 24 or more and r at most (length - 24) / 12.
+-- `table::stands` meets its contract: 24 + 12 r is at most the length exactly if the length is 24 or more and r at most
+-- (length - 24) / 12.
 use mathlib.Core.Bool.{true≢false, false≢true}
 use native.Mathlib.Omega.{arith}
 use borrow.Author.Needs.{needs}
