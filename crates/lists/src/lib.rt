@@ -1,5 +1,5 @@
-// Lists of places, sorted by a key: two neighbouring runs of a list made one (sorted.rt), and the best pair of places across two runs
-// (across.rt). Nothing here knows a tree.
+// Lists of places, sorted by a key: two neighbouring runs of a list made one (sorted.rt), and the best pair of places
+// across two runs (across.rt). Nothing here knows a tree.
 mod across;
 mod sorted;
 

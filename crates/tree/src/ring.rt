@@ -1,4 +1,5 @@
-// The first row whose ends earlier rows already join, by union by rank: each node climbs to a root, joined nodes to the same, and a row links two roots.
+// The first row whose ends earlier rows already join, by union by rank: each node climbs to a root, joined nodes to the
+// same, and a row links two roots.
 ghost use Prim.Native.Nat.{_<_};
 ghost use Rattle.tree.specs.Net.{firstEnd, secondEnd};
 ghost use Rattle.tree.specs.Work.{Readable, Numbered, Rises, Root, FirstRing, Linkable, Union};

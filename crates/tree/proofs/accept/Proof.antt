@@ -14,13 +14,22 @@ enum-known-o-2 : tie.Need-enum-known-o-2
 enum-known-o-2 c = search needs
 
 rings-requires : tie.Need-rings-requires
-rings-requires c κs = fitting (c .before .before .before .before .before .args .s .now) _ _ (rw (c .before .o2 .given .1) at (c .before .before .before .examine .ensures))
+rings-requires c κs =
+    let examine-ensures = c .before .before .before .examine .ensures in
+    let args = c .before .before .before .before .before .args in
+    fitting (args .s .now) _ _ (rw (c .before .o2 .given .1) at examine-ensures)
 
 returns : tie.Need-returns
-returns c = refused-stays (c .before .before .before .before .before .args .s .now) _ (rw (c .before .o .given .1) at (c .before .before .before .examine .ensures))
+returns c =
+    let examine-ensures = c .before .before .before .examine .ensures in
+    let args = c .before .before .before .before .before .args in
+    refused-stays (args .s .now) _ (rw (c .before .o .given .1) at examine-ensures)
 
 returns-2 : tie.Need-returns-2
-returns-2 c = examined-goes (c .before .before .before .before .before .before .args .s .now) _ _ _ (rw (c .before .before .o2 .given .1) at (c .before .before .before .before .examine .ensures)) (c .rings .ensures)
+returns-2 c =
+    let examine-ensures = c .before .before .before .before .examine .ensures in
+    let args = c .before .before .before .before .before .before .args in
+    examined-goes (args .s .now) _ _ _ (rw (c .before .before .o2 .given .1) at examine-ensures) (c .rings .ensures)
 
 pub accept-spec : {M : Type 1} → statement M
 accept-spec =

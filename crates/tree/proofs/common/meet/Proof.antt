@@ -1,7 +1,15 @@
--- `tree::meet` meets its contract. The loop's invariant: both climbs stand above their nodes, and whatever is above both nodes is above both places.
--- The measure is the sum of the two places.
+-- `tree::meet` meets its contract. The loop's invariant: both climbs stand above their nodes, and whatever is above
+-- both nodes is above both places. The measure is the sum of the two places.
 use Rattle.arrays.specs.Filled.{at}
-use Rattle.tree.proofs.Meeting.{Meeting, meeting-start, meeting-step, meeting-flip, meeting-end, later-low, apart-later}
+use Rattle.tree.proofs.Meeting.{
+  Meeting,
+  meeting-start,
+  meeting-step,
+  meeting-flip,
+  meeting-end,
+  later-low,
+  apart-later,
+}
 use Prim.Native.Nat.{_+_, _-_}
 use mathlib.Core.Path.{ap}
 use native.Mathlib.Omega.{arith}
@@ -37,11 +45,17 @@ element-copy-out-if1-2 c = omega (arith, c .before .before .loop .inv .fits-b, c
 
 -- src/common.rt:14:30
 mul-wide : tie.Need-mul-wide Inv-loop μ-loop
-mul-wide c = omega (arith, c .before .before .before .before .loop .inv .fits-b, c .before .before .before .before .before .pre .0 .few)
+mul-wide c =
+    let loop-inv = c .before .before .before .before .loop .inv in
+    let pre = c .before .before .before .before .before .pre in
+    omega (arith, loop-inv .fits-b, pre .0 .few)
 
 -- src/common.rt:14:30
 element-copy-out-wide : tie.Need-element-copy-out-wide Inv-loop μ-loop
-element-copy-out-wide c = omega (arith, c .before .before .before .before .loop .inv .fits-b, c .before .before .before .before .before .pre .0 .few)
+element-copy-out-wide c =
+    let loop-inv = c .before .before .before .before .loop .inv in
+    let pre = c .before .before .before .before .before .pre in
+    omega (arith, loop-inv .fits-b, pre .0 .few)
 
 -- src/common.rt:14:13
 wide-requires : tie.Need-wide-requires Inv-loop μ-loop
@@ -49,19 +63,33 @@ wide-requires c κs = search needs
 
 -- src/common.rt:12:5
 loop-less : tie.Need-loop-less Inv-loop μ-loop
-loop-less c = let z = later-low (c .before .before .before .before .before .before .before .pre .0) (c .before .before .before .before .before .before .loop .inv .fits-a) (c .before .before .if1 .taken) in omega (arith, c .before .before .before .before .before .before .before .pre .0 .earlier _ (c .before .before .before .before .before .before .loop .inv .fits-b) z, ap (at (c .before .before .before .before .before .before .before .args .place .now)) (c .wide .ensures .0))
+loop-less c =
+    let loop-inv = c .before .before .before .before .before .before .loop .inv in
+    let args = c .before .before .before .before .before .before .before .args in
+    let pre = c .before .before .before .before .before .before .before .pre in
+    let z = later-low (pre .0) (loop-inv .fits-a) (c .before .before .if1 .taken) in
+    omega (arith, pre .0 .earlier _ (loop-inv .fits-b) z, ap (at (args .place .now)) (c .wide .ensures .0))
 
 -- src/common.rt:12:5
 loop-again : tie.Need-loop-again Inv-loop μ-loop
-loop-again c = meeting-flip (meeting-step (c .before .before .before .before .before .before .before .pre .0) (c .before .before .if1 .taken) (c .wide .ensures .0) (meeting-flip (c .before .before .before .before .before .before .loop .inv)))
+loop-again c =
+    let loop-inv = c .before .before .before .before .before .before .loop .inv in
+    let pre = c .before .before .before .before .before .before .before .pre in
+    meeting-flip (meeting-step (pre .0) (c .before .before .if1 .taken) (c .wide .ensures .0) (meeting-flip loop-inv))
 
 -- src/common.rt:16:30
 mul-wide-2 : tie.Need-mul-wide-2 Inv-loop μ-loop
-mul-wide-2 c = omega (arith, c .before .before .before .before .loop .inv .fits-a, c .before .before .before .before .before .pre .0 .few)
+mul-wide-2 c =
+    let loop-inv = c .before .before .before .before .loop .inv in
+    let pre = c .before .before .before .before .before .pre in
+    omega (arith, loop-inv .fits-a, pre .0 .few)
 
 -- src/common.rt:16:30
 element-copy-out-wide-2 : tie.Need-element-copy-out-wide-2 Inv-loop μ-loop
-element-copy-out-wide-2 c = omega (arith, c .before .before .before .before .loop .inv .fits-a, c .before .before .before .before .before .pre .0 .few)
+element-copy-out-wide-2 c =
+    let loop-inv = c .before .before .before .before .loop .inv in
+    let pre = c .before .before .before .before .before .pre in
+    omega (arith, loop-inv .fits-a, pre .0 .few)
 
 -- src/common.rt:16:13
 wide-requires-2 : tie.Need-wide-requires-2 Inv-loop μ-loop
@@ -69,12 +97,26 @@ wide-requires-2 c κs = search needs
 
 -- src/common.rt:12:5
 loop-less-2 : tie.Need-loop-less-2 Inv-loop μ-loop
-loop-less-2 c = let l = apart-later (c .before .before .before .before .before .before .before .pre .0) (c .before .before .before .before .before .before .loop .inv .fits-a) (c .before .before .before .before .before .before .loop .inv .fits-b) (c .before .before .before .before .before .loop-test .taken) (omega (arith, c .before .before .if1 .left)) in
-    let z = later-low (c .before .before .before .before .before .before .before .pre .0) (c .before .before .before .before .before .before .loop .inv .fits-b) l in omega (arith, c .before .before .before .before .before .before .before .pre .0 .earlier _ (c .before .before .before .before .before .before .loop .inv .fits-a) z, ap (at (c .before .before .before .before .before .before .before .args .place .now)) (c .wide2 .ensures .0))
+loop-less-2 c =
+    let loop-test-taken = c .before .before .before .before .before .loop-test .taken in
+    let loop-inv = c .before .before .before .before .before .before .loop .inv in
+    let args = c .before .before .before .before .before .before .before .args in
+    let pre = c .before .before .before .before .before .before .before .pre in
+    let l = apart-later (pre .0) (loop-inv .fits-a) (loop-inv .fits-b) loop-test-taken
+    (omega (arith, c .before .before .if1 .left)) in
+    let z = later-low (pre .0) (loop-inv .fits-b) l in
+    omega (arith, pre .0 .earlier _ (loop-inv .fits-a) z, ap (at (args .place .now)) (c .wide2 .ensures .0))
 
 -- src/common.rt:12:5
 loop-again-2 : tie.Need-loop-again-2 Inv-loop μ-loop
-loop-again-2 c = meeting-step (c .before .before .before .before .before .before .before .pre .0) (apart-later (c .before .before .before .before .before .before .before .pre .0) (c .before .before .before .before .before .before .loop .inv .fits-a) (c .before .before .before .before .before .before .loop .inv .fits-b) (c .before .before .before .before .before .loop-test .taken) (omega (arith, c .before .before .if1 .left))) (c .wide2 .ensures .0) (c .before .before .before .before .before .before .loop .inv)
+loop-again-2 c =
+    let loop-test-taken = c .before .before .before .before .before .loop-test .taken in
+    let loop-inv = c .before .before .before .before .before .before .loop .inv in
+    let pre = c .before .before .before .before .before .before .before .pre in
+    meeting-step (pre .0)
+    (apart-later (pre .0) (loop-inv .fits-a) (loop-inv .fits-b) loop-test-taken
+    (omega (arith, c .before .before .if1 .left)))
+    (c .wide2 .ensures .0) loop-inv
 
 -- src/common.rt:6:1
 returns : tie.Need-returns Inv-loop μ-loop

@@ -10,7 +10,8 @@ use Rattle.tree.proofs.reach.chains.Statement.{statement}
 use Rattle.tree.proofs.reach.chains.Tie as tie
 
 abbrev Inv-loop : tie.InvT-loop
-Inv-loop s rows first₀ next₀ end h₀ first next h = Chained (firstEnd s) (secondEnd s) rows h first next × Readable s rows × (end ≡ 2 * rows)
+Inv-loop s rows first₀ next₀ end h₀ first next h =
+    Chained (firstEnd s) (secondEnd s) rows h first next × Readable s rows × (end ≡ 2 * rows)
 
 abbrev μ-loop : tie.MeasureT-loop
 μ-loop s rows first₀ next₀ end h₀ first next h = end - h
@@ -25,13 +26,19 @@ mul-end : tie.Need-mul-end Inv-loop μ-loop
 mul-end c = omega arith
 
 loop-holds : tie.Need-loop-holds Inv-loop μ-loop
-loop-holds c = (chained-none _ _ _ _ _ (c .before .before .fill .ensures .long) (c .fill-wide .ensures .long) (c .before .before .fill .ensures .each), c .before .before .before .before .before .pre, refl)
+loop-holds c =
+    let fill-ensures = c .before .before .fill .ensures in
+    let pre = c .before .before .before .before .before .pre in
+    (chained-none _ _ _ _ _ (fill-ensures .long) (c .fill-wide .ensures .long) (fill-ensures .each), pre, refl)
 
 leaves-requires : tie.Need-leaves-requires Inv-loop μ-loop
 leaves-requires c κs = c .before .loop .inv .1 .stands _ (omega arith)
 
 mul-next : tie.Need-mul-next Inv-loop μ-loop
-mul-next c = let b : c .leaves .result < 4096 = rw (c .leaves .ensures) (from-fits _ _ _ (c .before .before .loop .inv .1 .fit) (omega arith)) in omega arith
+mul-next c =
+    let b : c .leaves .result < 4096 = rw (c .leaves .ensures)
+    (from-fits _ _ _ (c .before .before .loop .inv .1 .fit) (omega arith)) in
+    omega arith
 
 element-copy-out-next : tie.Need-element-copy-out-next Inv-loop μ-loop
 element-copy-out-next c = rw (c .leaves .ensures) (from-fits _ _ _ (c .before .before .loop .inv .1 .fit) (omega arith))
@@ -49,10 +56,18 @@ cast-first : tie.Need-cast-first Inv-loop μ-loop
 cast-first c = omega arith
 
 mul-first : tie.Need-mul-first Inv-loop μ-loop
-mul-first c = let b : c .before .leaves .result < 4096 = rw (c .before .leaves .ensures) (from-fits _ _ _ (c .before .before .before .loop .inv .1 .fit) (omega arith)) in omega arith
+mul-first c =
+    let loop-inv = c .before .before .before .loop .inv in
+    let b : c .before .leaves .result < 4096 = rw (c .before .leaves .ensures)
+    (from-fits _ _ _ (loop-inv .1 .fit) (omega arith)) in
+    omega arith
 
 element-write-first : tie.Need-element-write-first Inv-loop μ-loop
-element-write-first c = let b : c .before .leaves .result < 4096 = rw (c .before .leaves .ensures) (from-fits _ _ _ (c .before .before .before .loop .inv .1 .fit) (omega arith)) in omega arith
+element-write-first c =
+    let loop-inv = c .before .before .before .loop .inv in
+    let b : c .before .leaves .result < 4096 = rw (c .before .leaves .ensures)
+    (from-fits _ _ _ (loop-inv .1 .fit) (omega arith)) in
+    omega arith
 
 add-h : tie.Need-add-h Inv-loop μ-loop
 add-h c = omega arith
@@ -61,7 +76,9 @@ loop-less : tie.Need-loop-less Inv-loop μ-loop
 loop-less c = omega arith
 
 loop-again : tie.Need-loop-again Inv-loop μ-loop
-loop-again c = let h = c .before .before .before .loop .inv in (chained-more _ _ _ _ _ _ _ (h .1 .fit) (h .1 .few) (omega arith) (c .before .leaves .ensures) (h .0), h .1, h .2)
+loop-again c =
+    let h = c .before .before .before .loop .inv in
+    (chained-more _ _ _ _ _ _ _ (h .1 .fit) (h .1 .few) (omega arith) (c .before .leaves .ensures) (h .0), h .1, h .2)
 
 returns : tie.Need-returns Inv-loop μ-loop
 returns c = let h = c .before .loop .inv in chained-all _ _ _ _ _ _ (h .0) (omega arith)

@@ -37,7 +37,11 @@ loop-less c =
     let h = c .before .before .before .loop .inv in
     let t = c .before .before .before .loop .t in
     let e = c .before .wide .ensures .0 in
-    omega (arith, rw (sym e) at (h .2 .rises t (h .0) (λ q. c .if1 .left (e ∙ q))), h .2 .most (c .before .wide .result) (rw (sym e) at (h .2 .within t (h .0))))
+    omega (
+      arith,
+      rw (sym e) at (h .2 .rises t (h .0) (λ q. c .if1 .left (e ∙ q))),
+      h .2 .most (c .before .wide .result) (rw (sym e) at (h .2 .within t (h .0))),
+    )
 
 loop-again : tie.Need-loop-again Inv-loop μ-loop
 loop-again c =
