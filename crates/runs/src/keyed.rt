@@ -1,5 +1,6 @@
-// The two lists of one item and the keys of its places: ku[x] = 2^40 + d[x] - 2 d[t] and wu[x] = 2^40 + w[x] - 2 w[t], t being the spine's
-// node at which x hangs. The length from x to a place y of a later item is then ku[x] + d[y] - 2^40, its weight wu[x] + w[y] - 2^40.
+// The two lists of one item and the keys of its places: ku[x] = 2^40 + d[x] - 2 d[t] and wu[x] = 2^40 + w[x] - 2 w[t],
+// t being the spine's node at which x hangs. The length from x to a place y of a later item is then
+// ku[x] + d[y] - 2^40, its weight wu[x] + w[y] - 2^40.
 ghost use mathlib.Core.Path.{_≡_};
 ghost use Prim.Native.Nat.{_+_, _≤_, _<_};
 ghost use lib.ListN.{length};
@@ -50,8 +51,10 @@ pub(crate) fn alone(
 )
     requires { ⌜ World (now d) (now w) × (s < 4096) ⌝ }
     requires { ⌜ Sizes (now x) (now y) (now ku) (now wu) ⌝ }
-    ensures { λ _. ⌜ Lone (now (d .entry)) (now (w .entry)) s s (s + 1) (now (x .exit)) (now (y .exit)) (now (ku .exit)) (now (wu .exit)) ⌝ }
-    ensures { λ _. ⌜ Framed s (s + 1) (now (x .entry)) (now (y .entry)) (now (ku .entry)) (now (wu .entry)) (now (x .exit)) (now (y .exit)) (now (ku .exit)) (now (wu .exit)) ⌝ }
+    ensures { λ _. ⌜ Lone (now (d .entry)) (now (w .entry)) s s (s + 1) (now (x .exit)) (now (y .exit)) (now (ku .exit))
+        (now (wu .exit)) ⌝ }
+    ensures { λ _. ⌜ Framed s (s + 1) (now (x .entry)) (now (y .entry)) (now (ku .entry)) (now (wu .entry))
+        (now (x .exit)) (now (y .exit)) (now (ku .exit)) (now (wu .exit)) ⌝ }
 {
     put(x, s);
     put(y, s);
@@ -75,8 +78,10 @@ pub(crate) fn hang(
     requires { ⌜ Sizes (now x) (now y) (now ku) (now wu) ⌝ }
     requires { ⌜ Listed (now d) (now x) s e ⌝ }
     requires { ⌜ (s < e) × (e ≤ 4096) × (at (now parent) s < 4096) ⌝ }
-    ensures { λ _. ⌜ Lone (now (d .entry)) (now (w .entry)) (at (now (parent .entry)) s) s e (now (x .entry)) (now (y .exit)) (now (ku .exit)) (now (wu .exit)) ⌝ }
-    ensures { λ _. ⌜ Framed s e (now (x .entry)) (now (y .entry)) (now (ku .entry)) (now (wu .entry)) (now (x .entry)) (now (y .exit)) (now (ku .exit)) (now (wu .exit)) ⌝ }
+    ensures { λ _. ⌜ Lone (now (d .entry)) (now (w .entry)) (at (now (parent .entry)) s) s e (now (x .entry))
+        (now (y .exit)) (now (ku .exit)) (now (wu .exit)) ⌝ }
+    ensures { λ _. ⌜ Framed s e (now (x .entry)) (now (y .entry)) (now (ku .entry)) (now (wu .entry)) (now (x .entry))
+        (now (y .exit)) (now (ku .exit)) (now (wu .exit)) ⌝ }
 {
     let p = wide(parent[s]);
     copy(x, y, s, e);

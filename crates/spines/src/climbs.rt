@@ -1,4 +1,5 @@
-// Hops: the number of different spines that the path between two nodes touches, counted along the two climbs to where they meet.
+// Hops: the number of different spines that the path between two nodes touches, counted along the two climbs to where
+// they meet.
 ghost use Prim.Native.Nat.{_<_};
 ghost use Rattle.spines.specs.Parents.{Spined, HopsBy};
 ghost use Rattle.spines.specs.Work.{One, Climbable, PassedHeads};
@@ -23,7 +24,8 @@ fn passed_heads(
     t: usize,
 ) -> usize
     requires { ⌜ Climbable (now parent) (now place) (now head) x t ⌝ }
-    ensures { λ r. ⌜ ((k : Climbable (now (parent .entry)) (now (place .entry)) (now (head .entry)) x t) → PassedHeads (k .n) (now (parent .entry)) (now (place .entry)) x t r) ⌝ }
+    ensures { λ r. ⌜ ((k : Climbable (now (parent .entry)) (now (place .entry)) (now (head .entry)) x t)
+        → PassedHeads (k .n) (now (parent .entry)) (now (place .entry)) x t r) ⌝ }
 {
     let mut v = x;
     let mut passed: usize = 0;

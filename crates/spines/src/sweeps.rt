@@ -97,7 +97,9 @@ pub(crate) fn follow_mains(
     n: usize,
     head: &mut [u16; 4096],
 )
-    requires { ⌜ Grown n (now parent) (now order) (now place) × LeavesAll n (now parent) (now leaves) × Bests n (now parent) (now leaves) n (now main) ⌝ }
+    requires { ⌜ Grown n (now parent) (now order) (now place)
+        × LeavesAll n (now parent) (now leaves)
+        × Bests n (now parent) (now leaves) n (now main) ⌝ }
     ensures { λ _. ⌜ HeadsAll n (now (parent .entry)) (now (head .exit)) ⌝ }
 {
     arrays::fill(head, 0);

@@ -15,17 +15,29 @@ enum-known-o-2 : tie.Need-enum-known-o-2
 enum-known-o-2 c = search needs
 
 claim-pair-requires : tie.Need-claim-pair-requires
-claim-pair-requires c κs = admitted (c .before .before .before .before .before .before .before .args .table .now) _ _ (rw (c .before .before .o2 .given .1) at (c .before .before .before .before .accept .ensures)) .net
+claim-pair-requires c κs =
+    let accept-ensures = c .before .before .before .before .accept .ensures in
+    let args = c .before .before .before .before .before .before .before .args in
+    admitted (args .table .now) _ _ (rw (c .before .before .o2 .given .1) at accept-ensures) .net
 
 returns : tie.Need-returns
-returns c = refused-on (refusal (c .before .before .before .before .before .before .args .marks .now)) (c .before .before .before .before .before .before .args .table .now) _ (rw (c .before .o .given .1) at (c .before .before .before .accept .ensures))
+returns c =
+    let accept-ensures = c .before .before .before .accept .ensures in
+    let args = c .before .before .before .before .before .before .args in
+    refused-on (refusal (args .marks .now)) (args .table .now) _ (rw (c .before .o .given .1) at accept-ensures)
 
 same-length : tie.Need-same-length
 same-length c = search needs
 
 returns-2 : tie.Need-returns-2
-returns-2 c = let p = rw (c .before .before .before .before .before .o2 .given .1) at (c .before .before .before .before .before .before .before .accept .ensures) in let A = admitted (c .before .before .before .before .before .before .before .before .before .before .args .table .now) _ _ p in
-    passed-on (refusal (c .before .before .before .before .before .before .before .before .before .before .args .marks .now)) (c .before .before .before .before .before .before .before .before .before .before .args .table .now) _ _ p (rw (A .nodes, A .bound) at (c .before .before .claim-pair .ensures))
+returns-2 c =
+    let o2-given = c .before .before .before .before .before .o2 .given in
+    let accept-ensures = c .before .before .before .before .before .before .before .accept .ensures in
+    let args = c .before .before .before .before .before .before .before .before .before .before .args in
+    let p = rw (o2-given .1) at accept-ensures in
+    let A = admitted (args .table .now) _ _ p in
+    passed-on (refusal (args .marks .now)) (args .table .now) _ _ p
+    (rw (A .nodes, A .bound) at (c .before .before .claim-pair .ensures))
 
 pub claim-spec : {M : Type 1} → statement M
 claim-spec =

@@ -17,13 +17,18 @@ same-length : tie.Need-same-length
 same-length c = search needs
 
 returns : tie.Need-returns
-returns c = added-row (c .before .before .before .before .before .before .before .pre .0) (c .before .before .before .before .before .before .before .pre .1) _ _ (c .before .before .before .before .if1 .taken) (c .before .before .put-row .ensures)
+returns c =
+    let if1-taken = c .before .before .before .before .if1 .taken in
+    let pre = c .before .before .before .before .before .before .before .pre in
+    added-row (pre .0) (pre .1) _ _ if1-taken (c .before .before .put-row .ensures)
 
 add-t14 : tie.Need-add-t14
 add-t14 c = search needs
 
 returns-2 : tie.Need-returns-2
-returns-2 c = added-left (c .before .before .before .before .pre .0) (c .before .before .before .before .pre .1) _ (c .before .if1 .left)
+returns-2 c =
+    let pre = c .before .before .before .before .pre in
+    added-left (pre .0) (pre .1) _ (c .before .if1 .left)
 
 pub add-spec : {M : Type 1} → statement M
 add-spec =

@@ -1,4 +1,5 @@
--- `pages::put` stores the k lowest bytes of x. The invariant: what is still to be stored makes of the present bytes what the whole makes of the first.
+-- `pages::put` stores the k lowest bytes of x. The invariant: what is still to be stored makes of the present bytes
+-- what the whole makes of the first.
 use Prim.Native.Nat.{_+_, _≤_}
 use mathlib.Core.Path.{_≡_, refl, sym, _∙_}
 use native.Mathlib.Omega.{arith}
@@ -10,7 +11,8 @@ use Rattle.pages.proofs.put.Statement.{statement}
 use Rattle.pages.proofs.put.Tie as tie
 
 abbrev Inv-loop : tie.InvT-loop
-Inv-loop out₀ at x k p₀ y₀ j₀ out p y j = (p + j ≤ length out) × (length out ≡ length out₀) × (sets out p (bytes j y) ≡ sets out₀ at (bytes k x))
+Inv-loop out₀ at x k p₀ y₀ j₀ out p y j =
+    (p + j ≤ length out) × (length out ≡ length out₀) × (sets out p (bytes j y) ≡ sets out₀ at (bytes k x))
 
 abbrev μ-loop : tie.MeasureT-loop
 μ-loop out₀ at x k p₀ y₀ j₀ out p y j = j
@@ -35,8 +37,11 @@ loop-less c = omega arith
 
 loop-again : tie.Need-loop-again Inv-loop μ-loop
 loop-again c =
-    let h = c .before .loop .inv in
-    (simp length-set (omega arith), simp length-set (h .1), bytes-step _ (c .before .loop .p) (c .before .loop .j) (c .before .loop .y) (c .loop-test .taken) ∙ h .2)
+    let h = c .before .loop .inv in (
+      simp length-set (omega arith),
+      simp length-set (h .1),
+      bytes-step _ (c .before .loop .p) (c .before .loop .j) (c .before .loop .y) (c .loop-test .taken) ∙ h .2,
+    )
 
 same-length : tie.Need-same-length Inv-loop μ-loop
 same-length c = c .before .loop .inv .1

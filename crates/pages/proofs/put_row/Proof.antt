@@ -34,7 +34,15 @@ same-length : tie.Need-same-length
 same-length c = search needs
 
 returns : tie.Need-returns
-returns c = rw (c .before .before .put4 .ensures, c .before .before .before .before .bits .ensures, c .before .before .before .before .before .before .before .put3 .ensures, c .before .before .before .before .before .before .before .before .before .before .before .put2 .ensures, c .before .before .before .before .before .before .before .before .before .before .before .before .before .before .before .put .ensures) (row-sets _ _ (entry (c .before .before .before .before .before .before .before .before .before .before .before .before .before .before .before .before .before .before .args .a) (c .before .before .before .before .before .before .before .before .before .before .before .before .before .before .before .before .before .before .args .b) (c .before .before .before .before .before .before .before .before .before .before .before .before .before .before .before .before .before .before .args .l) (lower (c .before .before .before .before .before .before .before .before .before .before .before .before .before .before .before .before .before .before .args .x))))
+returns c =
+    let bits-ensures = c .before .before .before .before .bits .ensures in
+    let put3-ensures = c .before .before .before .before .before .before .before .put3 .ensures in
+    let back = c .before .before .before .before .before .before .before .before .before .before .before in
+    let put2-ensures = back .put2 .ensures in
+    let put-ensures = back .before .before .before .before .put .ensures in
+    let args = back .before .before .before .before .before .before .before .args in
+    rw (c .before .before .put4 .ensures, bits-ensures, put3-ensures, put2-ensures, put-ensures)
+    (row-sets _ _ (entry (args .a) (args .b) (args .l) (lower (args .x))))
 
 pub put-row-spec : {M : Type 1} → statement M
 put-row-spec =

@@ -1,4 +1,5 @@
--- `pages::raised` gives the floor's lift: 2^33 more than the floor, and 0 where that would be negative. A signed local holds bits: `toZ-ofZ` reads them back as the number.
+-- `pages::raised` gives the floor's lift: 2^33 more than the floor, and 0 where that would be negative. A signed local
+-- holds bits: `toZ-ofZ` reads them back as the number.
 use Prim.Native.Nat.{suc, _+_, _-_, _<_}
 use mathlib.Core.Path.{_≡_, sym, _∙_}
 use mathlib.Core.Bool.{true, false, true≢false, false≢true}
@@ -35,12 +36,15 @@ pos-raised (negsuc n) h = absurd (false≢true h)
 neg-zero : (z : ℤ) → leZ (pos 0) z ≡ false → ltZ z (negsuc 8589934591) ≡ true → Raised z 0
 unfolding raise
 neg-zero (pos n) h k = absurd (true≢false (sym (leb·zero n) ∙ h))
-neg-zero (negsuc n) h k = let e : 8589934592 - suc n ≡ 0 = omega (arith, ltb-true 8589934591 n k) in rw e at (raised-is (negsuc n))
+neg-zero (negsuc n) h k =
+    let e : 8589934592 - suc n ≡ 0 = omega (arith, ltb-true 8589934591 n k) in
+    rw e at (raised-is (negsuc n))
 
 neg-sum : (z : ℤ) → leZ (pos 0) z ≡ false → ltZ z (negsuc 8589934591) ≡ false → z +ℤ pos 8589934592 ≡ pos (raise z)
 unfolding raise
 neg-sum (pos n) h k = absurd (true≢false (sym (leb·zero n) ∙ h))
-neg-sum (negsuc n) h k = diff-only (diff 8589934592 (suc n)) (up (8589934592 - suc n) (omega (arith, ltb-false 8589934591 n k)))
+neg-sum (negsuc n) h k =
+    diff-only (diff 8589934592 (suc n)) (up (8589934592 - suc n) (omega (arith, ltb-false 8589934591 n k)))
 
 neg-small : (z : ℤ) → leZ (pos 0) z ≡ false → raise z < 8589934592
 unfolding raise
@@ -49,9 +53,11 @@ neg-small (negsuc n) h = omega arith
 
 cast-result : tie.Need-cast-result
 cast-result c =
-    let e = toZ-ofZ w64 (c .before .args .floor) (c .before .fits .floor) in
-    let t : leZ (pos 0) (c .before .args .floor) ≡ true = rw e at (c .if1 .taken) in
-    rw e (pos-yes (c .before .args .floor) t, record { fits = omega (arith, pos-fits (c .before .args .floor) (c .before .fits .floor) t) })
+    let args = c .before .args in
+    let the-fits = c .before .fits in
+    let e = toZ-ofZ w64 (args .floor) (the-fits .floor) in
+    let t : leZ (pos 0) (args .floor) ≡ true = rw e at (c .if1 .taken) in
+    rw e (pos-yes (args .floor) t, record { fits = omega (arith, pos-fits (args .floor) (the-fits .floor) t) })
 
 add-result : tie.Need-add-result
 add-result c =
@@ -95,7 +101,8 @@ add-result-2 : tie.Need-add-result-2
 add-result-2 c = rw (e c, sum c) (small c)
 
 cast-result-2 : tie.Need-cast-result-2
-cast-result-2 c = rw (e c, sum c, back c) (tt, record { fits = omega (arith, neg-small (c .before .before .args .floor) (t c)) })
+cast-result-2 c =
+    rw (e c, sum c, back c) (tt, record { fits = omega (arith, neg-small (c .before .before .args .floor) (t c)) })
 
 returns-3 : tie.Need-returns-3
 returns-3 c = rw (e c, sum c, back c) (raised-is (c .before .before .args .floor))

@@ -34,7 +34,9 @@ loop-less : tie.Need-loop-less Inv-loop μ-loop
 loop-less c = omega arith
 
 loop-again : tie.Need-loop-again Inv-loop μ-loop
-loop-again c = (copying-more _ _ _ _ (c .before .loop-test .taken) (c .before .before .loop .inv .0), simp length-set (c .before .before .loop .inv .1))
+loop-again c =
+    let loop-inv = c .before .before .loop .inv in
+    (copying-more _ _ _ _ (c .before .loop-test .taken) (loop-inv .0), simp length-set (loop-inv .1))
 
 same-length : tie.Need-same-length Inv-loop μ-loop
 same-length c = c .before .loop .inv .0 .long

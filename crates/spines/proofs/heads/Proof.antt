@@ -15,16 +15,28 @@ enum-known-a-2 : tie.Need-enum-known-a-2
 enum-known-a-2 c = search needs
 
 list-heads-requires : tie.Need-list-heads-requires
-list-heads-requires c κs = admitted (c .before .before .before .before .before .before .before .args .s .now) _ _ (rw (c .before .before .a2 .given .1) at (c .before .before .before .before .accept .ensures)) .net
+list-heads-requires c κs =
+    let accept-ensures = c .before .before .before .before .accept .ensures in
+    let args = c .before .before .before .before .before .before .before .args in
+    admitted (args .s .now) _ _ (rw (c .before .before .a2 .given .1) at accept-ensures) .net
 
 returns : tie.Need-returns
-returns c = refused-on (refusal (c .before .before .before .before .before .before .args .list .now)) (c .before .before .before .before .before .before .args .s .now) _ (rw (c .before .a .given .1) at (c .before .before .before .accept .ensures))
+returns c =
+    let accept-ensures = c .before .before .before .accept .ensures in
+    let args = c .before .before .before .before .before .before .args in
+    refused-on (refusal (args .list .now)) (args .s .now) _ (rw (c .before .a .given .1) at accept-ensures)
 
 same-length : tie.Need-same-length
 same-length c = search needs
 
 returns-2 : tie.Need-returns-2
-returns-2 c = let p = rw (c .before .before .before .before .before .a2 .given .1) at (c .before .before .before .before .before .before .before .accept .ensures) in passed-on (refusal (c .before .before .before .before .before .before .before .before .before .before .args .list .now)) (c .before .before .before .before .before .before .before .before .before .before .args .s .now) _ _ p (rw (admitted (c .before .before .before .before .before .before .before .before .before .before .args .s .now) _ _ p .nodes) at (c .before .before .list-heads .ensures))
+returns-2 c =
+    let a2-given = c .before .before .before .before .before .a2 .given in
+    let accept-ensures = c .before .before .before .before .before .before .before .accept .ensures in
+    let args = c .before .before .before .before .before .before .before .before .before .before .args in
+    let p = rw (a2-given .1) at accept-ensures in
+    passed-on (refusal (args .list .now)) (args .s .now) _ _ p
+    (rw (admitted (args .s .now) _ _ p .nodes) at (c .before .before .list-heads .ensures))
 
 pub heads-spec : {M : Type 1} → statement M
 heads-spec =

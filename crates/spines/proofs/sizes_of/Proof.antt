@@ -1,4 +1,5 @@
--- `sizes_of` meets its contract. The places from i on have given their nodes to their parents; at the end the root alone has not.
+-- `sizes_of` meets its contract. The places from i on have given their nodes to their parents; at the end the root
+-- alone has not.
 use Prim.Native.Nat.{_-_, _≤_, _<_}
 use native.Mathlib.Omega.{arith}
 use borrow.Author.Needs.{needs}
@@ -10,7 +11,8 @@ use Rattle.spines.proofs.sizes_of.Statement.{statement}
 use Rattle.spines.proofs.sizes_of.Tie as tie
 
 abbrev Inv-loop : tie.InvT-loop
-Inv-loop parent order place n size₀ i₀ size i = Given (Node n) n parent place i size × Grown n parent order place × (0 < i) × (i ≤ n)
+Inv-loop parent order place n size₀ i₀ size i =
+    Given (Node n) n parent place i size × Grown n parent order place × (0 < i) × (i ≤ n)
 
 abbrev μ-loop : tie.MeasureT-loop
 μ-loop parent order place n size₀ i₀ size i = i
@@ -34,55 +36,131 @@ wide-requires : tie.Need-wide-requires Inv-loop μ-loop
 wide-requires c κs = search needs
 
 mul-wide-2 : tie.Need-mul-wide-2 Inv-loop μ-loop
-mul-wide-2 c = let h = c .before .before .before .loop .inv in omega (arith, read-node (h .1) (c .before .before .before .loop .i - 1) _ (omega arith) (c .wide .ensures .0))
+mul-wide-2 c =
+    let loop-i = c .before .before .before .loop .i in
+    let h = c .before .before .before .loop .inv in
+    omega (arith, read-node (h .1) (loop-i - 1) _ (omega arith) (c .wide .ensures .0))
 
 element-copy-out-wide-2 : tie.Need-element-copy-out-wide-2 Inv-loop μ-loop
-element-copy-out-wide-2 c = let h = c .before .before .before .loop .inv in omega (arith, read-node (h .1) (c .before .before .before .loop .i - 1) _ (omega arith) (c .wide .ensures .0))
+element-copy-out-wide-2 c =
+    let loop-i = c .before .before .before .loop .i in
+    let h = c .before .before .before .loop .inv in
+    omega (arith, read-node (h .1) (loop-i - 1) _ (omega arith) (c .wide .ensures .0))
 
 wide-requires-2 : tie.Need-wide-requires-2 Inv-loop μ-loop
 wide-requires-2 c κs = search needs
 
 mul-w : tie.Need-mul-w Inv-loop μ-loop
-mul-w c = let h = c .before .before .before .before .before .loop .inv in omega (arith, read-node (h .1) (c .before .before .before .before .before .loop .i - 1) _ (omega arith) (c .before .before .wide .ensures .0))
+mul-w c =
+    let loop-i = c .before .before .before .before .before .loop .i in
+    let h = c .before .before .before .before .before .loop .inv in
+    omega (arith, read-node (h .1) (loop-i - 1) _ (omega arith) (c .before .before .wide .ensures .0))
 
 element-copy-out-w : tie.Need-element-copy-out-w Inv-loop μ-loop
-element-copy-out-w c = let h = c .before .before .before .before .before .loop .inv in omega (arith, read-node (h .1) (c .before .before .before .before .before .loop .i - 1) _ (omega arith) (c .before .before .wide .ensures .0))
+element-copy-out-w c =
+    let loop-i = c .before .before .before .before .before .loop .i in
+    let h = c .before .before .before .before .before .loop .inv in
+    omega (arith, read-node (h .1) (loop-i - 1) _ (omega arith) (c .before .before .wide .ensures .0))
 
 add-w : tie.Need-add-w Inv-loop μ-loop
-add-w c = let h = c .before .before .before .before .before .before .loop .inv in omega (arith, h .1 .some .1, size-fits (h .1) _ _ _ _ (c .before .before .before .before .before .loop-test .taken) (h .3) (c .before .before .before .wide .ensures .0) (c .before .wide2 .ensures .0) (h .0))
+add-w c =
+    let wide-ensures = c .before .before .before .wide .ensures in
+    let loop-test-taken = c .before .before .before .before .before .loop-test .taken in
+    let h = c .before .before .before .before .before .before .loop .inv in
+    omega (
+      arith,
+      h .1 .some .1,
+      size-fits (h .1) _ _ _ _ loop-test-taken (h .3) (wide-ensures .0) (c .before .wide2 .ensures .0) (h .0),
+    )
 
 mul-y : tie.Need-mul-y Inv-loop μ-loop
-mul-y c = let h = c .before .before .before .before .before .before .loop .inv in omega (arith, read-parent (h .1) (c .before .before .before .before .before .before .loop .i - 1) _ _ (omega arith) (omega arith) (c .before .before .before .wide .ensures .0) (c .before .wide2 .ensures .0))
+mul-y c =
+    let wide-ensures = c .before .before .before .wide .ensures in
+    let loop-i = c .before .before .before .before .before .before .loop .i in
+    let h = c .before .before .before .before .before .before .loop .inv in
+    omega (
+      arith,
+      read-parent (h .1) (loop-i - 1) _ _ (omega arith) (omega arith) (wide-ensures .0) (c .before .wide2 .ensures .0),
+    )
 
 element-copy-out-y : tie.Need-element-copy-out-y Inv-loop μ-loop
-element-copy-out-y c = let h = c .before .before .before .before .before .before .loop .inv in omega (arith, read-parent (h .1) (c .before .before .before .before .before .before .loop .i - 1) _ _ (omega arith) (omega arith) (c .before .before .before .wide .ensures .0) (c .before .wide2 .ensures .0))
+element-copy-out-y c =
+    let wide-ensures = c .before .before .before .wide .ensures in
+    let loop-i = c .before .before .before .before .before .before .loop .i in
+    let h = c .before .before .before .before .before .before .loop .inv in
+    omega (
+      arith,
+      read-parent (h .1) (loop-i - 1) _ _ (omega arith) (omega arith) (wide-ensures .0) (c .before .wide2 .ensures .0),
+    )
 
 add-y : tie.Need-add-y Inv-loop μ-loop
-add-y c = let h = c .before .before .before .before .before .before .before .loop .inv in omega (arith, h .1 .some .1, sizes-fit (h .1) _ _ _ _ (c .before .before .before .before .before .before .loop-test .taken) (h .3) (c .before .before .before .before .wide .ensures .0) (c .before .before .wide2 .ensures .0) (h .0))
+add-y c =
+    let wide-ensures = c .before .before .before .before .wide .ensures in
+    let loop-test-taken = c .before .before .before .before .before .before .loop-test .taken in
+    let h = c .before .before .before .before .before .before .before .loop .inv in
+    omega (
+      arith,
+      h .1 .some .1,
+      sizes-fit (h .1) _ _ _ _ loop-test-taken (h .3) (wide-ensures .0) (c .before .before .wide2 .ensures .0) (h .0),
+    )
 
 mul-size : tie.Need-mul-size Inv-loop μ-loop
-mul-size c = let h = c .before .before .before .before .before .before .before .loop .inv in omega (arith, read-node (h .1) (c .before .before .before .before .before .before .before .loop .i - 1) _ (omega arith) (c .before .before .before .before .wide .ensures .0))
+mul-size c =
+    let wide-ensures = c .before .before .before .before .wide .ensures in
+    let loop-i = c .before .before .before .before .before .before .before .loop .i in
+    let h = c .before .before .before .before .before .before .before .loop .inv in
+    omega (arith, read-node (h .1) (loop-i - 1) _ (omega arith) (wide-ensures .0))
 
 element-write-size : tie.Need-element-write-size Inv-loop μ-loop
-element-write-size c = let h = c .before .before .before .before .before .before .before .loop .inv in omega (arith, read-node (h .1) (c .before .before .before .before .before .before .before .loop .i - 1) _ (omega arith) (c .before .before .before .before .wide .ensures .0))
+element-write-size c =
+    let wide-ensures = c .before .before .before .before .wide .ensures in
+    let loop-i = c .before .before .before .before .before .before .before .loop .i in
+    let h = c .before .before .before .before .before .before .before .loop .inv in
+    omega (arith, read-node (h .1) (loop-i - 1) _ (omega arith) (wide-ensures .0))
 
 mul-size-2 : tie.Need-mul-size-2 Inv-loop μ-loop
-mul-size-2 c = let h = c .before .before .before .before .before .before .before .loop .inv in omega (arith, read-parent (h .1) (c .before .before .before .before .before .before .before .loop .i - 1) _ _ (omega arith) (omega arith) (c .before .before .before .before .wide .ensures .0) (c .before .before .wide2 .ensures .0))
+mul-size-2 c =
+    let wide-ensures = c .before .before .before .before .wide .ensures in
+    let loop-i = c .before .before .before .before .before .before .before .loop .i in
+    let h = c .before .before .before .before .before .before .before .loop .inv in
+    omega (
+      arith,
+      read-parent (h .1) (loop-i - 1) _ _ (omega arith) (omega arith) (wide-ensures .0)
+          (c .before .before .wide2 .ensures .0),
+    )
 
 element-write-size-2 : tie.Need-element-write-size-2 Inv-loop μ-loop
-element-write-size-2 c = let h = c .before .before .before .before .before .before .before .loop .inv in omega (arith, read-parent (h .1) (c .before .before .before .before .before .before .before .loop .i - 1) _ _ (omega arith) (omega arith) (c .before .before .before .before .wide .ensures .0) (c .before .before .wide2 .ensures .0))
+element-write-size-2 c =
+    let wide-ensures = c .before .before .before .before .wide .ensures in
+    let loop-i = c .before .before .before .before .before .before .before .loop .i in
+    let h = c .before .before .before .before .before .before .before .loop .inv in
+    omega (
+      arith,
+      read-parent (h .1) (loop-i - 1) _ _ (omega arith) (omega arith) (wide-ensures .0)
+          (c .before .before .wide2 .ensures .0),
+    )
 
 loop-less : tie.Need-loop-less Inv-loop μ-loop
 loop-less c = omega arith
 
 loop-again : tie.Need-loop-again Inv-loop μ-loop
-loop-again c = let h = c .before .before .before .before .before .before .before .loop .inv in (sizes-next (h .1) _ _ _ _ (c .before .before .before .before .before .before .loop-test .taken) (h .3) (c .before .before .before .before .wide .ensures .0) (c .before .before .wide2 .ensures .0) (h .0), h .1, omega arith, omega arith)
+loop-again c =
+    let wide-ensures = c .before .before .before .before .wide .ensures in
+    let loop-test-taken = c .before .before .before .before .before .before .loop-test .taken in
+    let h = c .before .before .before .before .before .before .before .loop .inv in (
+      sizes-next (h .1) _ _ _ _ loop-test-taken (h .3) (wide-ensures .0) (c .before .before .wide2 .ensures .0) (h .0),
+      h .1,
+      omega arith,
+      omega arith,
+    )
 
 element-copy-out-w-2 : tie.Need-element-copy-out-w-2 Inv-loop μ-loop
 element-copy-out-w-2 c = omega arith
 
 add-w-2 : tie.Need-add-w-2 Inv-loop μ-loop
-add-w-2 c = let h = c .before .before .loop .inv in omega (arith, h .1 .some .1, root-size (h .1) _ _ (omega arith) (h .2) (h .0))
+add-w-2 c =
+    let h = c .before .before .loop .inv in
+    omega (arith, h .1 .some .1, root-size (h .1) _ _ (omega arith) (h .2) (h .0))
 
 element-write-size-3 : tie.Need-element-write-size-3 Inv-loop μ-loop
 element-write-size-3 c = omega arith

@@ -7,7 +7,10 @@ walk-requires : tie.Need-walk-requires
 walk-requires c κs = c .before .before .before .before .before .before .pre .net
 
 claim-path-requires : tie.Need-claim-path-requires
-claim-path-requires c κs = (c .before .before .before .before .before .before .before .before .before .before .before .pre, record { order = _; walked = c .before .before .before .before .walk .ensures })
+claim-path-requires c κs =
+    let walk-ensures = c .before .before .before .before .walk .ensures in
+    let pre = c .before .before .before .before .before .before .before .before .before .before .before .pre in
+    (pre, record { order = _; walked = walk-ensures })
 
 same-length : tie.Need-same-length
 same-length c = search needs

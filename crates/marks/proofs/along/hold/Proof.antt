@@ -1,6 +1,15 @@
--- `marks::along::hold` meets its contract. The loop's invariant: the rows behind and the rows ahead are the climb's, and the free ones behind are held.
+-- `marks::along::hold` meets its contract. The loop's invariant: the rows behind and the rows ahead are the climb's,
+-- and the free ones behind are held.
 use Rattle.arrays.specs.Filled.{at}
-use Rattle.marks.proofs.Climbing.{Taking, taking-start, taking-row, taking-step, taking-end, along-fits, along-less}
+use Rattle.marks.proofs.Climbing.{
+  Taking,
+  taking-start,
+  taking-row,
+  taking-step,
+  taking-end,
+  along-fits,
+  along-less,
+}
 use Prim.Native.Nat.{_/_, ℕ}
 use mathlib.Core.Path.{ap}
 use native.Mathlib.Omega.{arith}
@@ -27,22 +36,43 @@ wide-requires : tie.Need-wide-requires Inv-loop μ-loop
 wide-requires c κs = search needs
 
 take-requires : tie.Need-take-requires Inv-loop μ-loop
-take-requires c κs = let e = c .before .wide .ensures .0 in omega (arith, taking-row (c .before .before .before .loop-test .taken) (c .before .before .before .before .loop .inv))
+take-requires c κs =
+    let loop-test-taken = c .before .before .before .loop-test .taken in
+    let loop-inv = c .before .before .before .before .loop .inv in
+    let e = c .before .wide .ensures .0 in
+    omega (arith, taking-row loop-test-taken loop-inv)
 
 mul-wide-2 : tie.Need-mul-wide-2 Inv-loop μ-loop
-mul-wide-2 c = omega (arith, along-fits (c .before .before .before .before .before .before .before .loop .inv .along) (c .before .before .before .before .before .before .loop-test .taken))
+mul-wide-2 c =
+    let loop-test-taken = c .before .before .before .before .before .before .loop-test .taken in
+    let loop-inv = c .before .before .before .before .before .before .before .loop .inv in
+    omega (arith, along-fits (loop-inv .along) loop-test-taken)
 
 element-copy-out-wide-2 : tie.Need-element-copy-out-wide-2 Inv-loop μ-loop
-element-copy-out-wide-2 c = omega (arith, along-fits (c .before .before .before .before .before .before .before .loop .inv .along) (c .before .before .before .before .before .before .loop-test .taken))
+element-copy-out-wide-2 c =
+    let loop-test-taken = c .before .before .before .before .before .before .loop-test .taken in
+    let loop-inv = c .before .before .before .before .before .before .before .loop .inv in
+    omega (arith, along-fits (loop-inv .along) loop-test-taken)
 
 wide-requires-2 : tie.Need-wide-requires-2 Inv-loop μ-loop
 wide-requires-2 c κs = search needs
 
 loop-less : tie.Need-loop-less Inv-loop μ-loop
-loop-less c = omega (arith, along-less (c .before .before .before .before .before .before .before .before .before .loop .inv .along) (c .before .before .before .before .before .before .before .before .loop-test .taken), ap (at (c .before .before .before .before .before .before .before .before .before .before .before .args .place .now)) (c .wide2 .ensures .0))
+loop-less c =
+    let loop-test-taken = c .before .before .before .before .before .before .before .before .loop-test .taken in
+    let loop-inv = c .before .before .before .before .before .before .before .before .before .loop .inv in
+    let args = c .before .before .before .before .before .before .before .before .before .before .before .args in
+    omega (arith, along-less (loop-inv .along) loop-test-taken, ap (at (args .place .now)) (c .wide2 .ensures .0))
 
 loop-again : tie.Need-loop-again Inv-loop μ-loop
-loop-again c = taking-step (λ e. omega (arith, c .before .before .before .before .before .before .before .before .before .before .before .pre .1)) (c .before .before .before .before .before .before .before .before .before .loop .inv) (c .before .before .before .before .before .before .before .before .loop-test .taken) (ap (λ (z : ℕ). z / 2) (c .before .before .before .before .before .before .wide .ensures .0)) (c .wide2 .ensures .0) (c .before .before .before .before .take .ensures)
+loop-again c =
+    let take-ensures = c .before .before .before .before .take .ensures in
+    let wide-ensures = c .before .before .before .before .before .before .wide .ensures in
+    let loop-test-taken = c .before .before .before .before .before .before .before .before .loop-test .taken in
+    let loop-inv = c .before .before .before .before .before .before .before .before .before .loop .inv in
+    let pre = c .before .before .before .before .before .before .before .before .before .before .before .pre in
+    taking-step (λ e. omega (arith, pre .1)) loop-inv loop-test-taken (ap (λ (z : ℕ). z / 2) (wide-ensures .0))
+    (c .wide2 .ensures .0) take-ensures
 
 same-length : tie.Need-same-length Inv-loop μ-loop
 same-length c = c .before .loop .inv .held .same-many

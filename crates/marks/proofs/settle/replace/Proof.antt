@@ -1,4 +1,5 @@
--- `marks::settle::replace` meets its contract. The loop's invariant: places below i that held `old` hold `new`, all others are as they were, k counts the former.
+-- `marks::settle::replace` meets its contract. The loop's invariant: places below i that held `old` hold `new`, all
+-- others are as they were, k counts the former.
 use Rattle.marks.proofs.Replacing.{Replacing, replacing-start, replacing-hit, replacing-miss, replacing-end}
 use Prim.Native.Nat.{_-_}
 use native.Mathlib.Omega.{arith}
@@ -31,19 +32,26 @@ slice-write-marks : tie.Need-slice-write-marks Inv-loop μ-loop
 slice-write-marks c = omega arith
 
 add-k : tie.Need-add-k Inv-loop μ-loop
-add-k c = omega (arith, c .before .before .before .loop .inv .few, c .before .before .before .loop .inv .within, c .before .before .before .before .pre)
+add-k c =
+    let loop-inv = c .before .before .before .loop .inv in
+    let pre = c .before .before .before .before .pre in
+    omega (arith, loop-inv .few, loop-inv .within, pre)
 
 loop-less : tie.Need-loop-less Inv-loop μ-loop
 loop-less c = omega (arith, c .before .before .before .loop .inv .same-many)
 
 loop-again : tie.Need-loop-again Inv-loop μ-loop
-loop-again c = replacing-hit (c .before .before .before .loop .inv) (omega (arith, c .before .before .before .loop .inv .same-many)) (c .if1 .taken)
+loop-again c =
+    let loop-inv = c .before .before .before .loop .inv in
+    replacing-hit loop-inv (omega (arith, loop-inv .same-many)) (c .if1 .taken)
 
 loop-less-2 : tie.Need-loop-less-2 Inv-loop μ-loop
 loop-less-2 c = omega (arith, c .before .before .before .loop .inv .same-many)
 
 loop-again-2 : tie.Need-loop-again-2 Inv-loop μ-loop
-loop-again-2 c = replacing-miss (c .before .before .before .loop .inv) (omega (arith, c .before .before .before .loop .inv .same-many)) (c .if1 .left)
+loop-again-2 c =
+    let loop-inv = c .before .before .before .loop .inv in
+    replacing-miss loop-inv (omega (arith, loop-inv .same-many)) (c .if1 .left)
 
 same-length : tie.Need-same-length Inv-loop μ-loop
 same-length c = c .before .loop .inv .same-many

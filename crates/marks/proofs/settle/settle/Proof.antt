@@ -15,17 +15,29 @@ enum-known-o-2 : tie.Need-enum-known-o-2
 enum-known-o-2 c = search needs
 
 settle-net-requires : tie.Need-settle-net-requires
-settle-net-requires c κs = let A = admitted (c .before .before .before .before .before .before .before .args .table .now) _ _ (rw (c .before .before .o2 .given .1) at (c .before .before .before .before .accept .ensures)) in (A .net .some, A .net .few)
+settle-net-requires c κs =
+    let accept-ensures = c .before .before .before .before .accept .ensures in
+    let args = c .before .before .before .before .before .before .before .args in
+    let A = admitted (args .table .now) _ _ (rw (c .before .before .o2 .given .1) at accept-ensures) in
+    (A .net .some, A .net .few)
 
 returns : tie.Need-returns
-returns c = refused-on (refusal (c .before .before .before .before .before .before .args .marks .now)) (c .before .before .before .before .before .before .args .table .now) _ (rw (c .before .o .given .1) at (c .before .before .before .accept .ensures))
+returns c =
+    let accept-ensures = c .before .before .before .accept .ensures in
+    let args = c .before .before .before .before .before .before .args in
+    refused-on (refusal (args .marks .now)) (args .table .now) _ (rw (c .before .o .given .1) at accept-ensures)
 
 same-length : tie.Need-same-length
 same-length c = search needs
 
 returns-2 : tie.Need-returns-2
-returns-2 c = let p = rw (c .before .before .before .before .before .o2 .given .1) at (c .before .before .before .before .before .before .before .accept .ensures) in
-    passed-on (refusal (c .before .before .before .before .before .before .before .before .before .before .args .marks .now)) (c .before .before .before .before .before .before .before .before .before .before .args .table .now) _ _ p (rw (admitted (c .before .before .before .before .before .before .before .before .before .before .args .table .now) _ _ p .nodes) at (c .before .before .settle-net .ensures))
+returns-2 c =
+    let o2-given = c .before .before .before .before .before .o2 .given in
+    let accept-ensures = c .before .before .before .before .before .before .before .accept .ensures in
+    let args = c .before .before .before .before .before .before .before .before .before .before .args in
+    let p = rw (o2-given .1) at accept-ensures in
+    passed-on (refusal (args .marks .now)) (args .table .now) _ _ p
+    (rw (admitted (args .table .now) _ _ p .nodes) at (c .before .before .settle-net .ensures))
 
 pub settle-spec : {M : Type 1} → statement M
 settle-spec =

@@ -1,4 +1,5 @@
--- `marks::settle::settle_net` meets its contract: 13 and 14 as the tests have it, and the marks that hold the run's number are those that the run holds.
+-- `marks::settle::settle_net` meets its contract: 13 and 14 as the tests have it, and the marks that hold the run's
+-- number are those that the run holds.
 use Rattle.table.specs.Refuse.{refused, passed}
 use Rattle.marks.specs.Mark.{RunNumber}
 use Rattle.marks.proofs.Changed.{holds-held}
@@ -18,20 +19,35 @@ returns : tie.Need-returns
 returns c = refused (λ e. omega (arith, c .if1 .taken, c .before .wide .ensures .0, c .before .before .before .pre))
 
 returns-2 : tie.Need-returns-2
-returns-2 c = passed (omega (arith, c .before .if1 .left, c .before .before .wide .ensures .0)) (refused (λ n. omega (arith, n .above)))
+returns-2 c =
+    passed (omega (arith, c .before .if1 .left, c .before .before .wide .ensures .0))
+    (refused (λ n. omega (arith, n .above)))
 
 returns-3 : tie.Need-returns-3
-returns-3 c = passed (omega (arith, c .before .before .if1 .left, c .before .before .before .wide .ensures .0)) (refused (λ n. omega (arith, n .below)))
+returns-3 c =
+    let wide-ensures = c .before .before .before .wide .ensures in
+    passed (omega (arith, c .before .before .if1 .left, wide-ensures .0)) (refused (λ n. omega (arith, n .below)))
 
 replace-requires : tie.Need-replace-requires
-replace-requires c κs = omega (arith, c .before .before .before .if1 .left, c .before .before .before .before .wide .ensures .0, c .before .before .before .before .before .before .pre)
+replace-requires c κs =
+    let if1-left = c .before .before .before .if1 .left in
+    let wide-ensures = c .before .before .before .before .wide .ensures in
+    let pre = c .before .before .before .before .before .before .pre in
+    omega (arith, if1-left, wide-ensures .0, pre)
 
 same-length : tie.Need-same-length
 same-length c = c .before .before .replace .ensures .same-many
 
 returns-4 : tie.Need-returns-4
-returns-4 c = let N : RunNumber (c .before .before .before .before .before .before .before .before .before .args .run) = record { above = omega (arith, c .before .before .before .before .before .if2 .left); below = omega (arith, c .before .before .before .before .if3 .left) } in
-    passed (omega (arith, c .before .before .before .before .before .before .if1 .left, c .before .before .before .before .before .before .before .wide .ensures .0)) (passed N (record { is = refl; marks = holds-held N (c .before .before .replace .ensures) }))
+returns-4 c =
+    let if3-left = c .before .before .before .before .if3 .left in
+    let if2-left = c .before .before .before .before .before .if2 .left in
+    let if1-left = c .before .before .before .before .before .before .if1 .left in
+    let wide-ensures = c .before .before .before .before .before .before .before .wide .ensures in
+    let args = c .before .before .before .before .before .before .before .before .before .args in
+    let N : RunNumber (args .run) = record { above = omega (arith, if2-left); below = omega (arith, if3-left) } in
+    passed (omega (arith, if1-left, wide-ensures .0))
+    (passed N (record { is = refl; marks = holds-held N (c .before .before .replace .ensures) }))
 
 pub settle-net-spec : {M : Type 1} → statement M
 settle-net-spec =

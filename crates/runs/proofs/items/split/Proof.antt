@@ -1,4 +1,5 @@
--- `runs::split` meets its contract. The invariant is `Splitting`, prev and i being neighbouring boundaries of items, with prev before the middle unless it is s. The measure is what is left of the part.
+-- `runs::split` meets its contract. The invariant is `Splitting`, prev and i being neighbouring boundaries of items,
+-- with prev before the middle unless it is s. The measure is what is left of the part.
 use Prim.Native.Nat.{_≤_, _<_, _-_}
 use native.Mathlib.Omega.{arith}
 use Rattle.runs.proofs.Splitting.{Splitting, splitting-first, splitting-more, cut-prev, cut-end, cut-next}
@@ -6,7 +7,8 @@ use Rattle.runs.proofs.items.split.Statement.{statement}
 use Rattle.runs.proofs.items.split.Tie as tie
 
 abbrev Inv-loop : tie.InvT-loop
-Inv-loop stop head parent h s e mid prev₀ i₀ prev i = Splitting stop head parent h s e prev i × (mid < e) × (e ≤ 4096) × (s < prev → prev < mid)
+Inv-loop stop head parent h s e mid prev₀ i₀ prev i =
+    Splitting stop head parent h s e prev i × (mid < e) × (e ≤ 4096) × (s < prev → prev < mid)
 
 abbrev μ-loop : tie.MeasureT-loop
 μ-loop stop head parent h s e mid prev₀ i₀ prev i = e - i
@@ -22,8 +24,12 @@ item-end-requires c κs = omega arith
 
 loop-holds : tie.Need-loop-holds Inv-loop μ-loop
 loop-holds c =
-    let a = c .before .pre in
-    (splitting-first _ _ _ _ _ _ _ (a .0) (omega arith) (a .1 .2) (c .item-end .ensures), omega arith, omega arith, λ x. absurd (omega arith))
+    let a = c .before .pre in (
+      splitting-first _ _ _ _ _ _ _ (a .0) (omega arith) (a .1 .2) (c .item-end .ensures),
+      omega arith,
+      omega arith,
+      λ x. absurd (omega arith),
+    )
 
 item-end-requires-2 : tie.Need-item-end-requires-2 Inv-loop μ-loop
 item-end-requires-2 c κs = omega arith
@@ -36,8 +42,12 @@ loop-less c =
 
 loop-again : tie.Need-loop-again Inv-loop μ-loop
 loop-again c =
-    let h = c .before .before .loop .inv in
-    (splitting-more _ _ _ _ _ _ _ _ _ (h .0) (omega arith) (c .item-end2 .ensures), omega arith, omega arith, λ x. omega arith)
+    let h = c .before .before .loop .inv in (
+      splitting-more _ _ _ _ _ _ _ _ _ (h .0) (omega arith) (c .item-end2 .ensures),
+      omega arith,
+      omega arith,
+      λ x. omega arith,
+    )
 
 returns : tie.Need-returns Inv-loop μ-loop
 returns c = cut-end _ _ _ _ _ _ _ _ (c .before .before .loop .inv .0) (c .if1 .taken)

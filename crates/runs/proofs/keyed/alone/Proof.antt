@@ -24,8 +24,11 @@ raise-requires-2 c κs = search needs
 
 returns : tie.Need-returns
 returns c =
+    let put2-ensures = c .before .before .before .before .put2 .ensures in
+    let put-ensures = c .before .before .before .before .before .before .put .ensures in
     let a = c .before .before .before .before .before .before .before .before .pre in
-    lone-alone _ _ _ _ _ _ _ _ _ _ _ (a .0 .0) (a .0 .1) (a .1) (c .before .before .before .before .before .before .put .ensures) (c .before .before .before .before .put2 .ensures) (c .before .before .raise .ensures) (c .raise2 .ensures)
+    lone-alone _ _ _ _ _ _ _ _ _ _ _ (a .0 .0) (a .0 .1) (a .1) put-ensures put2-ensures
+    (c .before .before .raise .ensures) (c .raise2 .ensures)
 
 pub alone-spec : {M : Type 1} → statement M
 alone-spec =

@@ -1,4 +1,5 @@
--- `runs::hang` meets its contract: the keys differ from the distances by one number for all, so the copied list is sorted by them too.
+-- `runs::hang` meets its contract: the keys differ from the distances by one number for all, so the copied list is
+-- sorted by them too.
 use Rattle.runs.proofs.Keys.{lone-hang}
 use borrow.Author.Needs.{needs}
 use Rattle.runs.proofs.keyed.hang.Statement.{statement}
@@ -24,8 +25,11 @@ raise-requires-2 c κs = search needs
 
 returns : tie.Need-returns
 returns c =
+    let copy-ensures = c .before .before .before .before .copy .ensures in
+    let wide-ensures = c .before .before .before .before .before .before .wide .ensures in
     let a = c .before .before .before .before .before .before .before .before .pre in
-    lone-hang _ _ _ _ _ _ _ _ _ _ _ _ _ (a .0) (a .1 .0) (a .1 .1 .1 .1) (a .1 .1 .0) (c .before .before .before .before .copy .ensures) (c .before .before .before .before .before .before .wide .ensures .0) (c .before .before .raise .ensures) (c .raise2 .ensures)
+    lone-hang _ _ _ _ _ _ _ _ _ _ _ _ _ (a .0) (a .1 .0) (a .1 .1 .1 .1) (a .1 .1 .0) copy-ensures (wide-ensures .0)
+    (c .before .before .raise .ensures) (c .raise2 .ensures)
 
 pub hang-spec : {M : Type 1} → statement M
 hang-spec =

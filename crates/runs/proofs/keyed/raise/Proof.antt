@@ -1,4 +1,5 @@
--- `runs::raise` meets its contract. The invariant: the keys are raised up to i, and base is the lift less twice the value at p. The measure is what is left of the run.
+-- `runs::raise` meets its contract. The invariant: the keys are raised up to i, and base is the lift less twice the
+-- value at p. The measure is what is left of the run.
 use Prim.Native.Nat.{_≤_, _+_, _*_, _-_}
 use mathlib.Core.Path.{_≡_}
 use native.Mathlib.Omega.{arith}
@@ -11,7 +12,14 @@ use Rattle.runs.proofs.keyed.raise.Statement.{statement}
 use Rattle.runs.proofs.keyed.raise.Tie as tie
 
 abbrev Inv-loop : tie.InvT-loop
-Inv-loop out₀ from p s e base i₀ out i = (s ≤ i) × (i ≤ e) × (e ≤ 4096) × (length out ≡ 4096) × (base + 2 * at from p ≡ 1099511627776) × Low from × Raised from p s i out₀ out
+Inv-loop out₀ from p s e base i₀ out i =
+    (s ≤ i)
+    × (i ≤ e)
+    × (e ≤ 4096)
+    × (length out ≡ 4096)
+    × (base + 2 * at from p ≡ 1099511627776)
+    × Low from
+    × Raised from p s i out₀ out
 
 abbrev μ-loop : tie.MeasureT-loop
 μ-loop out₀ from p s e base i₀ out i = e - i
@@ -29,7 +37,16 @@ sub-base : tie.Need-sub-base Inv-loop μ-loop
 sub-base c = omega (arith, c .before .pre .0 .0 .low _ (c .before .pre .1 .2))
 
 loop-holds : tie.Need-loop-holds Inv-loop μ-loop
-loop-holds c = (omega arith, omega arith, omega arith, c .before .pre .0 .1, omega (arith, c .before .pre .0 .0 .low _ (c .before .pre .1 .2)), c .before .pre .0 .0, raised-none _ _ _ _)
+loop-holds c =
+    let pre = c .before .pre in (
+      omega arith,
+      omega arith,
+      omega arith,
+      pre .0 .1,
+      omega (arith, pre .0 .0 .low _ (pre .1 .2)),
+      pre .0 .0,
+      raised-none _ _ _ _,
+    )
 
 mul-out : tie.Need-mul-out Inv-loop μ-loop
 mul-out c = omega arith
@@ -56,8 +73,15 @@ loop-less c = omega arith
 
 loop-again : tie.Need-loop-again Inv-loop μ-loop
 loop-again c =
-    let h = c .before .before .loop .inv in
-    (omega arith, omega arith, omega arith, simp length-set (h .3), h .4, h .5, raised-more _ _ _ _ _ _ _ (omega arith) (omega arith) (omega (arith, h .4)) (h .6))
+    let h = c .before .before .loop .inv in (
+      omega arith,
+      omega arith,
+      omega arith,
+      simp length-set (h .3),
+      h .4,
+      h .5,
+      raised-more _ _ _ _ _ _ _ (omega arith) (omega arith) (omega (arith, h .4)) (h .6),
+    )
 
 returns : tie.Need-returns Inv-loop μ-loop
 returns c =

@@ -16,16 +16,37 @@ passed-heads-requires-2 : tie.Need-passed-heads-requires-2
 passed-heads-requires-2 c κs = search needs
 
 add-result : tie.Need-add-result
-add-result c = let p = c .before .before .before .pre in omega (arith, hops-counted (p .0) (p .1) (p .2) (c .before .before .meet .ensures .0) (c .before .passed-heads .ensures) (c .passed-heads2 .ensures) .few)
+add-result c =
+    let p = c .before .before .before .pre in
+    omega (
+      arith,
+      hops-counted (p .0) (p .1) (p .2) (c .before .before .meet .ensures .0) (c .before .passed-heads .ensures)
+          (c .passed-heads2 .ensures) .few,
+    )
 
 add-result-2 : tie.Need-add-result-2
-add-result-2 c = let p = c .before .before .before .pre in omega (arith, hops-counted (p .0) (p .1) (p .2) (c .before .before .meet .ensures .0) (c .before .passed-heads .ensures) (c .passed-heads2 .ensures) .few)
+add-result-2 c =
+    let p = c .before .before .before .pre in
+    omega (
+      arith,
+      hops-counted (p .0) (p .1) (p .2) (c .before .before .meet .ensures .0) (c .before .passed-heads .ensures)
+          (c .passed-heads2 .ensures) .few,
+    )
 
 cast-result : tie.Need-cast-result
-cast-result c = let p = c .before .before .before .pre in omega (arith, hops-counted (p .0) (p .1) (p .2) (c .before .before .meet .ensures .0) (c .before .passed-heads .ensures) (c .passed-heads2 .ensures) .few)
+cast-result c =
+    let p = c .before .before .before .pre in
+    omega (
+      arith,
+      hops-counted (p .0) (p .1) (p .2) (c .before .before .meet .ensures .0) (c .before .passed-heads .ensures)
+          (c .passed-heads2 .ensures) .few,
+    )
 
 returns : tie.Need-returns
-returns c = let p = c .before .before .before .pre in hops-counted (p .0) (p .1) (p .2) (c .before .before .meet .ensures .0) (c .before .passed-heads .ensures) (c .passed-heads2 .ensures)
+returns c =
+    let p = c .before .before .before .pre in
+    hops-counted (p .0) (p .1) (p .2) (c .before .before .meet .ensures .0) (c .before .passed-heads .ensures)
+    (c .passed-heads2 .ensures)
 
 pub hops-spec : {M : Type 1} → statement M
 hops-spec =

@@ -10,7 +10,12 @@ use Rattle.spines.proofs.sweeps.follow_mains.Statement.{statement}
 use Rattle.spines.proofs.sweeps.follow_mains.Tie as tie
 
 abbrev Inv-loop : tie.InvT-loop
-Inv-loop parent order place leaves main n head₀ i₀ head i = Heads n parent order i head × Grown n parent order place × LeavesAll n parent leaves × Bests n parent leaves n main × (0 < i)
+Inv-loop parent order place leaves main n head₀ i₀ head i =
+    Heads n parent order i head
+    × Grown n parent order place
+    × LeavesAll n parent leaves
+    × Bests n parent leaves n main
+    × (0 < i)
 
 abbrev μ-loop : tie.MeasureT-loop
 μ-loop parent order place leaves main n head₀ i₀ head i = n - i
@@ -19,7 +24,9 @@ fill-requires : tie.Need-fill-requires Inv-loop μ-loop
 fill-requires c κs = search needs
 
 loop-holds : tie.Need-loop-holds Inv-loop μ-loop
-loop-holds c = let g = c .before .before .pre in (heads-one (g .0) (g .1) (g .2) _ (c .fill .ensures), g .0, g .1, g .2, omega arith)
+loop-holds c =
+    let g = c .before .before .pre in
+    (heads-one (g .0) (g .1) (g .2) _ (c .fill .ensures), g .0, g .1, g .2, omega arith)
 
 mul-wide : tie.Need-mul-wide Inv-loop μ-loop
 mul-wide c = omega arith
@@ -31,34 +38,87 @@ wide-requires : tie.Need-wide-requires Inv-loop μ-loop
 wide-requires c κs = search needs
 
 mul-wide-2 : tie.Need-mul-wide-2 Inv-loop μ-loop
-mul-wide-2 c = let h = c .before .before .before .loop .inv in omega (arith, read-node (h .1) (c .before .before .before .loop .i) _ (c .before .before .loop-test .taken) (c .wide .ensures .0))
+mul-wide-2 c =
+    let loop-i = c .before .before .before .loop .i in
+    let h = c .before .before .before .loop .inv in
+    omega (arith, read-node (h .1) loop-i _ (c .before .before .loop-test .taken) (c .wide .ensures .0))
 
 element-copy-out-wide-2 : tie.Need-element-copy-out-wide-2 Inv-loop μ-loop
-element-copy-out-wide-2 c = let h = c .before .before .before .loop .inv in omega (arith, read-node (h .1) (c .before .before .before .loop .i) _ (c .before .before .loop-test .taken) (c .wide .ensures .0))
+element-copy-out-wide-2 c =
+    let loop-i = c .before .before .before .loop .i in
+    let h = c .before .before .before .loop .inv in
+    omega (arith, read-node (h .1) loop-i _ (c .before .before .loop-test .taken) (c .wide .ensures .0))
 
 wide-requires-2 : tie.Need-wide-requires-2 Inv-loop μ-loop
 wide-requires-2 c κs = search needs
 
 mul-follow : tie.Need-mul-follow Inv-loop μ-loop
-mul-follow c = let h = c .before .before .before .before .before .loop .inv in omega (arith, read-parent (h .1) (c .before .before .before .before .before .loop .i) _ _ (omega arith) (c .before .before .before .before .loop-test .taken) (c .before .before .wide .ensures .0) (c .wide2 .ensures .0))
+mul-follow c =
+    let loop-test-taken = c .before .before .before .before .loop-test .taken in
+    let loop-i = c .before .before .before .before .before .loop .i in
+    let h = c .before .before .before .before .before .loop .inv in
+    omega (
+      arith,
+      read-parent (h .1) loop-i _ _ (omega arith) loop-test-taken (c .before .before .wide .ensures .0)
+          (c .wide2 .ensures .0),
+    )
 
 element-copy-out-follow : tie.Need-element-copy-out-follow Inv-loop μ-loop
-element-copy-out-follow c = let h = c .before .before .before .before .before .loop .inv in omega (arith, read-parent (h .1) (c .before .before .before .before .before .loop .i) _ _ (omega arith) (c .before .before .before .before .loop-test .taken) (c .before .before .wide .ensures .0) (c .wide2 .ensures .0))
+element-copy-out-follow c =
+    let loop-test-taken = c .before .before .before .before .loop-test .taken in
+    let loop-i = c .before .before .before .before .before .loop .i in
+    let h = c .before .before .before .before .before .loop .inv in
+    omega (
+      arith,
+      read-parent (h .1) loop-i _ _ (omega arith) loop-test-taken (c .before .before .wide .ensures .0)
+          (c .wide2 .ensures .0),
+    )
 
 mul-follow-2 : tie.Need-mul-follow-2 Inv-loop μ-loop
-mul-follow-2 c = let h = c .before .before .before .before .before .before .loop .inv in omega (arith, read-parent (h .1) (c .before .before .before .before .before .before .loop .i) _ _ (omega arith) (c .before .before .before .before .before .loop-test .taken) (c .before .before .before .wide .ensures .0) (c .before .wide2 .ensures .0))
+mul-follow-2 c =
+    let wide-ensures = c .before .before .before .wide .ensures in
+    let loop-test-taken = c .before .before .before .before .before .loop-test .taken in
+    let loop-i = c .before .before .before .before .before .before .loop .i in
+    let h = c .before .before .before .before .before .before .loop .inv in
+    omega (
+      arith,
+      read-parent (h .1) loop-i _ _ (omega arith) loop-test-taken (wide-ensures .0) (c .before .wide2 .ensures .0),
+    )
 
 element-copy-out-follow-2 : tie.Need-element-copy-out-follow-2 Inv-loop μ-loop
-element-copy-out-follow-2 c = let h = c .before .before .before .before .before .before .loop .inv in omega (arith, read-parent (h .1) (c .before .before .before .before .before .before .loop .i) _ _ (omega arith) (c .before .before .before .before .before .loop-test .taken) (c .before .before .before .wide .ensures .0) (c .before .wide2 .ensures .0))
+element-copy-out-follow-2 c =
+    let wide-ensures = c .before .before .before .wide .ensures in
+    let loop-test-taken = c .before .before .before .before .before .loop-test .taken in
+    let loop-i = c .before .before .before .before .before .before .loop .i in
+    let h = c .before .before .before .before .before .before .loop .inv in
+    omega (
+      arith,
+      read-parent (h .1) loop-i _ _ (omega arith) loop-test-taken (wide-ensures .0) (c .before .wide2 .ensures .0),
+    )
 
 follow-requires : tie.Need-follow-requires Inv-loop μ-loop
-follow-requires c κs = let h = c .before .before .before .before .before .before .before .loop .inv in omega (arith, read-node (h .1) (c .before .before .before .before .before .before .before .loop .i) _ (c .before .before .before .before .before .before .loop-test .taken) (c .before .before .before .before .wide .ensures .0))
+follow-requires c κs =
+    let wide-ensures = c .before .before .before .before .wide .ensures in
+    let loop-test-taken = c .before .before .before .before .before .before .loop-test .taken in
+    let loop-i = c .before .before .before .before .before .before .before .loop .i in
+    let h = c .before .before .before .before .before .before .before .loop .inv in
+    omega (arith, read-node (h .1) loop-i _ loop-test-taken (wide-ensures .0))
 
 mul-head : tie.Need-mul-head Inv-loop μ-loop
-mul-head c = let h = c .before .before .before .before .before .before .before .before .loop .inv in omega (arith, read-node (h .1) (c .before .before .before .before .before .before .before .before .loop .i) _ (c .before .before .before .before .before .before .before .loop-test .taken) (c .before .before .before .before .before .wide .ensures .0))
+mul-head c =
+    let wide-ensures = c .before .before .before .before .before .wide .ensures in
+    let loop-test-taken = c .before .before .before .before .before .before .before .loop-test .taken in
+    let loop-i = c .before .before .before .before .before .before .before .before .loop .i in
+    let h = c .before .before .before .before .before .before .before .before .loop .inv in
+    omega (arith, read-node (h .1) loop-i _ loop-test-taken (wide-ensures .0))
 
 element-write-head : tie.Need-element-write-head Inv-loop μ-loop
-element-write-head c = let h = c .before .before .before .before .before .before .before .before .loop .inv in omega (arith, read-node (h .1) (c .before .before .before .before .before .before .before .before .loop .i) _ (c .before .before .before .before .before .before .before .loop-test .taken) (c .before .before .before .before .before .wide .ensures .0))
+element-write-head c =
+    let wide-ensures = c .before .before .before .before .before .wide .ensures in
+    let loop-test-taken = c .before .before .before .before .before .before .before .loop-test .taken in
+    let loop-i = c .before .before .before .before .before .before .before .before .loop .i in
+    let h = c .before .before .before .before .before .before .before .before .loop .inv in
+    omega (arith, read-node (h .1) loop-i _ loop-test-taken (wide-ensures .0))
 
 add-i : tie.Need-add-i Inv-loop μ-loop
 add-i c = omega arith
@@ -67,7 +127,18 @@ loop-less : tie.Need-loop-less Inv-loop μ-loop
 loop-less c = omega arith
 
 loop-again : tie.Need-loop-again Inv-loop μ-loop
-loop-again c = let h = c .before .before .before .before .before .before .before .before .loop .inv in (heads-more (h .1) (h .2) (h .3) _ _ _ _ _ (h .4) (c .before .before .before .before .before .before .before .loop-test .taken) (c .before .before .before .before .before .wide .ensures .0) (c .before .before .before .wide2 .ensures .0) (h .0) (c .follow .ensures), h .1, h .2, h .3, omega arith)
+loop-again c =
+    let wide2-ensures = c .before .before .before .wide2 .ensures in
+    let wide-ensures = c .before .before .before .before .before .wide .ensures in
+    let loop-test-taken = c .before .before .before .before .before .before .before .loop-test .taken in
+    let h = c .before .before .before .before .before .before .before .before .loop .inv in (
+      heads-more (h .1) (h .2) (h .3) _ _ _ _ _ (h .4) loop-test-taken (wide-ensures .0) (wide2-ensures .0) (h .0)
+          (c .follow .ensures),
+      h .1,
+      h .2,
+      h .3,
+      omega arith,
+    )
 
 returns : tie.Need-returns Inv-loop μ-loop
 returns c = let h = c .before .loop .inv in heads-all (h .1) (h .2) (h .3) _ _ (omega arith) (h .0)

@@ -1,4 +1,5 @@
--- `leaves_of` meets its contract. The places from i on have given their leaves to their parents; at the end the root alone has not.
+-- `leaves_of` meets its contract. The places from i on have given their leaves to their parents; at the end the root
+-- alone has not.
 use Prim.Native.Nat.{_-_, _≤_, _<_}
 use native.Mathlib.Omega.{arith}
 use borrow.Author.Needs.{needs}
@@ -13,7 +14,8 @@ use Rattle.spines.proofs.sweeps.leaves_of.Statement.{statement}
 use Rattle.spines.proofs.sweeps.leaves_of.Tie as tie
 
 abbrev Inv-loop : tie.InvT-loop
-Inv-loop parent order place n leaves₀ i₀ leaves i = Given (Leaf (Child n (at parent)) n) n parent place i leaves × Grown n parent order place × (0 < i) × (i ≤ n)
+Inv-loop parent order place n leaves₀ i₀ leaves i =
+    Given (Leaf (Child n (at parent)) n) n parent place i leaves × Grown n parent order place × (0 < i) × (i ≤ n)
 
 abbrev μ-loop : tie.MeasureT-loop
 μ-loop parent order place n leaves₀ i₀ leaves i = i
@@ -37,49 +39,115 @@ wide-requires : tie.Need-wide-requires Inv-loop μ-loop
 wide-requires c κs = search needs
 
 mul-wide-2 : tie.Need-mul-wide-2 Inv-loop μ-loop
-mul-wide-2 c = let h = c .before .before .before .loop .inv in omega (arith, read-node (h .1) (c .before .before .before .loop .i - 1) _ (omega arith) (c .wide .ensures .0))
+mul-wide-2 c =
+    let loop-i = c .before .before .before .loop .i in
+    let h = c .before .before .before .loop .inv in
+    omega (arith, read-node (h .1) (loop-i - 1) _ (omega arith) (c .wide .ensures .0))
 
 element-copy-out-wide-2 : tie.Need-element-copy-out-wide-2 Inv-loop μ-loop
-element-copy-out-wide-2 c = let h = c .before .before .before .loop .inv in omega (arith, read-node (h .1) (c .before .before .before .loop .i - 1) _ (omega arith) (c .wide .ensures .0))
+element-copy-out-wide-2 c =
+    let loop-i = c .before .before .before .loop .i in
+    let h = c .before .before .before .loop .inv in
+    omega (arith, read-node (h .1) (loop-i - 1) _ (omega arith) (c .wide .ensures .0))
 
 wide-requires-2 : tie.Need-wide-requires-2 Inv-loop μ-loop
 wide-requires-2 c κs = search needs
 
 mul-least : tie.Need-mul-least Inv-loop μ-loop
-mul-least c = let h = c .before .before .before .before .before .loop .inv in omega (arith, read-node (h .1) (c .before .before .before .before .before .loop .i - 1) _ (omega arith) (c .before .before .wide .ensures .0))
+mul-least c =
+    let loop-i = c .before .before .before .before .before .loop .i in
+    let h = c .before .before .before .before .before .loop .inv in
+    omega (arith, read-node (h .1) (loop-i - 1) _ (omega arith) (c .before .before .wide .ensures .0))
 
 element-copy-out-least : tie.Need-element-copy-out-least Inv-loop μ-loop
-element-copy-out-least c = let h = c .before .before .before .before .before .loop .inv in omega (arith, read-node (h .1) (c .before .before .before .before .before .loop .i - 1) _ (omega arith) (c .before .before .wide .ensures .0))
+element-copy-out-least c =
+    let loop-i = c .before .before .before .before .before .loop .i in
+    let h = c .before .before .before .before .before .loop .inv in
+    omega (arith, read-node (h .1) (loop-i - 1) _ (omega arith) (c .before .before .wide .ensures .0))
 
 least-requires : tie.Need-least-requires Inv-loop μ-loop
 least-requires c κs = search needs
 
 mul-y : tie.Need-mul-y Inv-loop μ-loop
-mul-y c = let h = c .before .before .before .before .before .before .before .loop .inv in omega (arith, read-parent (h .1) (c .before .before .before .before .before .before .before .loop .i - 1) _ _ (omega arith) (omega arith) (c .before .before .before .before .wide .ensures .0) (c .before .before .wide2 .ensures .0))
+mul-y c =
+    let wide-ensures = c .before .before .before .before .wide .ensures in
+    let loop-i = c .before .before .before .before .before .before .before .loop .i in
+    let h = c .before .before .before .before .before .before .before .loop .inv in
+    omega (
+      arith,
+      read-parent (h .1) (loop-i - 1) _ _ (omega arith) (omega arith) (wide-ensures .0)
+          (c .before .before .wide2 .ensures .0),
+    )
 
 element-copy-out-y : tie.Need-element-copy-out-y Inv-loop μ-loop
-element-copy-out-y c = let h = c .before .before .before .before .before .before .before .loop .inv in omega (arith, read-parent (h .1) (c .before .before .before .before .before .before .before .loop .i - 1) _ _ (omega arith) (omega arith) (c .before .before .before .before .wide .ensures .0) (c .before .before .wide2 .ensures .0))
+element-copy-out-y c =
+    let wide-ensures = c .before .before .before .before .wide .ensures in
+    let loop-i = c .before .before .before .before .before .before .before .loop .i in
+    let h = c .before .before .before .before .before .before .before .loop .inv in
+    omega (
+      arith,
+      read-parent (h .1) (loop-i - 1) _ _ (omega arith) (omega arith) (wide-ensures .0)
+          (c .before .before .wide2 .ensures .0),
+    )
 
 add-y : tie.Need-add-y Inv-loop μ-loop
-add-y c = let h = c .before .before .before .before .before .before .before .before .loop .inv in omega (arith, h .1 .some .1, leaves-fit (h .1) _ _ _ _ (c .before .before .before .before .before .before .before .loop-test .taken) (h .3) (c .before .before .before .before .before .wide .ensures .0) (c .before .before .before .wide2 .ensures .0) _ (h .0) (c .before .least .ensures))
+add-y c =
+    let wide2-ensures = c .before .before .before .wide2 .ensures in
+    let wide-ensures = c .before .before .before .before .before .wide .ensures in
+    let loop-test-taken = c .before .before .before .before .before .before .before .loop-test .taken in
+    let h = c .before .before .before .before .before .before .before .before .loop .inv in
+    omega (
+      arith,
+      h .1 .some .1,
+      leaves-fit (h .1) _ _ _ _ loop-test-taken (h .3) (wide-ensures .0) (wide2-ensures .0) _ (h .0)
+          (c .before .least .ensures),
+    )
 
 mul-leaves : tie.Need-mul-leaves Inv-loop μ-loop
-mul-leaves c = let h = c .before .before .before .before .before .before .before .before .loop .inv in omega (arith, read-node (h .1) (c .before .before .before .before .before .before .before .before .loop .i - 1) _ (omega arith) (c .before .before .before .before .before .wide .ensures .0))
+mul-leaves c =
+    let wide-ensures = c .before .before .before .before .before .wide .ensures in
+    let loop-i = c .before .before .before .before .before .before .before .before .loop .i in
+    let h = c .before .before .before .before .before .before .before .before .loop .inv in
+    omega (arith, read-node (h .1) (loop-i - 1) _ (omega arith) (wide-ensures .0))
 
 element-write-leaves : tie.Need-element-write-leaves Inv-loop μ-loop
-element-write-leaves c = let h = c .before .before .before .before .before .before .before .before .loop .inv in omega (arith, read-node (h .1) (c .before .before .before .before .before .before .before .before .loop .i - 1) _ (omega arith) (c .before .before .before .before .before .wide .ensures .0))
+element-write-leaves c =
+    let wide-ensures = c .before .before .before .before .before .wide .ensures in
+    let loop-i = c .before .before .before .before .before .before .before .before .loop .i in
+    let h = c .before .before .before .before .before .before .before .before .loop .inv in
+    omega (arith, read-node (h .1) (loop-i - 1) _ (omega arith) (wide-ensures .0))
 
 mul-leaves-2 : tie.Need-mul-leaves-2 Inv-loop μ-loop
-mul-leaves-2 c = let h = c .before .before .before .before .before .before .before .before .loop .inv in omega (arith, read-parent (h .1) (c .before .before .before .before .before .before .before .before .loop .i - 1) _ _ (omega arith) (omega arith) (c .before .before .before .before .before .wide .ensures .0) (c .before .before .before .wide2 .ensures .0))
+mul-leaves-2 c =
+    let wide2-ensures = c .before .before .before .wide2 .ensures in
+    let wide-ensures = c .before .before .before .before .before .wide .ensures in
+    let loop-i = c .before .before .before .before .before .before .before .before .loop .i in
+    let h = c .before .before .before .before .before .before .before .before .loop .inv in
+    omega (arith, read-parent (h .1) (loop-i - 1) _ _ (omega arith) (omega arith) (wide-ensures .0) (wide2-ensures .0))
 
 element-write-leaves-2 : tie.Need-element-write-leaves-2 Inv-loop μ-loop
-element-write-leaves-2 c = let h = c .before .before .before .before .before .before .before .before .loop .inv in omega (arith, read-parent (h .1) (c .before .before .before .before .before .before .before .before .loop .i - 1) _ _ (omega arith) (omega arith) (c .before .before .before .before .before .wide .ensures .0) (c .before .before .before .wide2 .ensures .0))
+element-write-leaves-2 c =
+    let wide2-ensures = c .before .before .before .wide2 .ensures in
+    let wide-ensures = c .before .before .before .before .before .wide .ensures in
+    let loop-i = c .before .before .before .before .before .before .before .before .loop .i in
+    let h = c .before .before .before .before .before .before .before .before .loop .inv in
+    omega (arith, read-parent (h .1) (loop-i - 1) _ _ (omega arith) (omega arith) (wide-ensures .0) (wide2-ensures .0))
 
 loop-less : tie.Need-loop-less Inv-loop μ-loop
 loop-less c = omega arith
 
 loop-again : tie.Need-loop-again Inv-loop μ-loop
-loop-again c = let h = c .before .before .before .before .before .before .before .before .loop .inv in (leaves-next (h .1) _ _ _ _ (c .before .before .before .before .before .before .before .loop-test .taken) (h .3) (c .before .before .before .before .before .wide .ensures .0) (c .before .before .before .wide2 .ensures .0) _ (h .0) (c .before .least .ensures), h .1, omega arith, omega arith)
+loop-again c =
+    let wide2-ensures = c .before .before .before .wide2 .ensures in
+    let wide-ensures = c .before .before .before .before .before .wide .ensures in
+    let loop-test-taken = c .before .before .before .before .before .before .before .loop-test .taken in
+    let h = c .before .before .before .before .before .before .before .before .loop .inv in (
+      leaves-next (h .1) _ _ _ _ loop-test-taken (h .3) (wide-ensures .0) (wide2-ensures .0) _ (h .0)
+          (c .before .least .ensures),
+      h .1,
+      omega arith,
+      omega arith,
+    )
 
 element-copy-out-least-2 : tie.Need-element-copy-out-least-2 Inv-loop μ-loop
 element-copy-out-least-2 c = omega arith
@@ -91,7 +159,9 @@ element-write-leaves-3 : tie.Need-element-write-leaves-3 Inv-loop μ-loop
 element-write-leaves-3 c = omega arith
 
 returns : tie.Need-returns Inv-loop μ-loop
-returns c = let h = c .before .before .before .loop .inv in leaves-all (h .1) _ _ _ (omega arith) (h .2) (h .0) (c .least2 .ensures)
+returns c =
+    let h = c .before .before .before .loop .inv in
+    leaves-all (h .1) _ _ _ (omega arith) (h .2) (h .0) (c .least2 .ensures)
 
 pub leaves-of-spec : {M : Type 1} → statement M
 leaves-of-spec =

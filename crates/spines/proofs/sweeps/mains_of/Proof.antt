@@ -9,7 +9,8 @@ use Rattle.spines.proofs.sweeps.mains_of.Statement.{statement}
 use Rattle.spines.proofs.sweeps.mains_of.Tie as tie
 
 abbrev Inv-loop : tie.InvT-loop
-Inv-loop parent order place leaves n main₀ c₀ main c = Bests n parent leaves c main × Grown n parent order place × (0 < c) × ((c ≤ n) × (n ≤ 4096))
+Inv-loop parent order place leaves n main₀ c₀ main c =
+    Bests n parent leaves c main × Grown n parent order place × (0 < c) × ((c ≤ n) × (n ≤ 4096))
 
 abbrev μ-loop : tie.MeasureT-loop
 μ-loop parent order place leaves n main₀ c₀ main c = n - c
@@ -18,7 +19,9 @@ fill-requires : tie.Need-fill-requires Inv-loop μ-loop
 fill-requires c κs = search needs
 
 loop-holds : tie.Need-loop-holds Inv-loop μ-loop
-loop-holds c = let g = c .before .before .pre in (bests-none _ _ _ _ (g .some .1) (c .fill .ensures), g, omega arith, (g .some .0, g .some .1))
+loop-holds c =
+    let g = c .before .before .pre in
+    (bests-none _ _ _ _ (g .some .1) (c .fill .ensures), g, omega arith, (g .some .0, g .some .1))
 
 mul-wide : tie.Need-mul-wide Inv-loop μ-loop
 mul-wide c = omega arith
@@ -30,25 +33,55 @@ wide-requires : tie.Need-wide-requires Inv-loop μ-loop
 wide-requires c κs = search needs
 
 mul-wide-2 : tie.Need-mul-wide-2 Inv-loop μ-loop
-mul-wide-2 c = let h = c .before .before .before .loop .inv in omega (arith, h .1 .some .1, read-child (h .1) _ _ (h .2) (c .before .before .loop-test .taken) (c .wide .ensures .0))
+mul-wide-2 c =
+    let h = c .before .before .before .loop .inv in
+    omega (
+      arith,
+      h .1 .some .1,
+      read-child (h .1) _ _ (h .2) (c .before .before .loop-test .taken) (c .wide .ensures .0),
+    )
 
 element-copy-out-wide-2 : tie.Need-element-copy-out-wide-2 Inv-loop μ-loop
-element-copy-out-wide-2 c = let h = c .before .before .before .loop .inv in omega (arith, h .1 .some .1, read-child (h .1) _ _ (h .2) (c .before .before .loop-test .taken) (c .wide .ensures .0))
+element-copy-out-wide-2 c =
+    let h = c .before .before .before .loop .inv in
+    omega (
+      arith,
+      h .1 .some .1,
+      read-child (h .1) _ _ (h .2) (c .before .before .loop-test .taken) (c .wide .ensures .0),
+    )
 
 wide-requires-2 : tie.Need-wide-requires-2 Inv-loop μ-loop
 wide-requires-2 c κs = search needs
 
 better-requires : tie.Need-better-requires Inv-loop μ-loop
-better-requires c κs = let h = c .before .before .before .before .before .loop .inv in (omega (arith, c .wide2 .ensures .0, best-small _ (h .3 .1) (h .3 .0) (read-child (h .1) _ _ (h .2) (c .before .before .before .before .loop-test .taken) (c .before .before .wide .ensures .0)) (h .0)), omega (arith, h .3 .1))
+better-requires c κs =
+    let loop-test-taken = c .before .before .before .before .loop-test .taken in
+    let h = c .before .before .before .before .before .loop .inv in (
+      omega (
+        arith,
+        c .wide2 .ensures .0,
+        best-small _ (h .3 .1) (h .3 .0)
+            (read-child (h .1) _ _ (h .2) loop-test-taken (c .before .before .wide .ensures .0)) (h .0),
+      ),
+      omega (arith, h .3 .1),
+    )
 
 cast-main : tie.Need-cast-main Inv-loop μ-loop
 cast-main c = omega (arith, c .better .ensures .small)
 
 mul-main : tie.Need-mul-main Inv-loop μ-loop
-mul-main c = let h = c .before .before .before .before .before .before .loop .inv in omega (arith, h .1 .some .1, read-child (h .1) _ _ (h .2) (c .before .before .before .before .before .loop-test .taken) (c .before .before .before .wide .ensures .0))
+mul-main c =
+    let wide-ensures = c .before .before .before .wide .ensures in
+    let loop-test-taken = c .before .before .before .before .before .loop-test .taken in
+    let h = c .before .before .before .before .before .before .loop .inv in
+    omega (arith, h .1 .some .1, read-child (h .1) _ _ (h .2) loop-test-taken (wide-ensures .0))
 
 element-write-main : tie.Need-element-write-main Inv-loop μ-loop
-element-write-main c = let h = c .before .before .before .before .before .before .loop .inv in omega (arith, h .1 .some .1, read-child (h .1) _ _ (h .2) (c .before .before .before .before .before .loop-test .taken) (c .before .before .before .wide .ensures .0))
+element-write-main c =
+    let wide-ensures = c .before .before .before .wide .ensures in
+    let loop-test-taken = c .before .before .before .before .before .loop-test .taken in
+    let h = c .before .before .before .before .before .before .loop .inv in
+    omega (arith, h .1 .some .1, read-child (h .1) _ _ (h .2) loop-test-taken (wide-ensures .0))
 
 add-c : tie.Need-add-c Inv-loop μ-loop
 add-c c = omega arith
@@ -57,7 +90,17 @@ loop-less : tie.Need-loop-less Inv-loop μ-loop
 loop-less c = omega arith
 
 loop-again : tie.Need-loop-again Inv-loop μ-loop
-loop-again c = let h = c .before .before .before .before .before .before .loop .inv in let e = c .before .before .before .wide .ensures .0 in (bests-more _ _ _ _ _ _ _ (h .3 .1) (c .before .before .before .before .before .loop-test .taken) (omega arith) (rw e at (read-child (h .1) _ _ (h .2) (c .before .before .before .before .before .loop-test .taken) e)) e (h .0) (rw (c .before .wide2 .ensures .0) at (c .better .ensures)), h .1, omega arith, (omega arith, h .3 .1))
+loop-again c =
+    let loop-test-taken = c .before .before .before .before .before .loop-test .taken in
+    let h = c .before .before .before .before .before .before .loop .inv in
+    let e = c .before .before .before .wide .ensures .0 in (
+      bests-more _ _ _ _ _ _ _ (h .3 .1) loop-test-taken (omega arith)
+          (rw e at (read-child (h .1) _ _ (h .2) loop-test-taken e)) e (h .0)
+          (rw (c .before .wide2 .ensures .0) at (c .better .ensures)),
+      h .1,
+      omega arith,
+      (omega arith, h .3 .1),
+    )
 
 returns : tie.Need-returns Inv-loop μ-loop
 returns c = let h = c .before .loop .inv in bests-all _ _ _ _ _ (omega arith) (h .0)
