@@ -14,7 +14,8 @@ pub(crate) fn grounded(
     bw: &mut [u64; 4096],
 )
     requires { ⌜ Net (now s) nodes ⌝ }
-    ensures { λ _. ⌜ Grounded (now (s .entry)) (now (marks .entry)) nodes (now (parent .exit)) (now (order .exit)) (now (place .exit)) (now (bl .exit)) (now (bw .exit)) ⌝ }
+    ensures { λ _. ⌜ Grounded (now (s .entry)) (now (marks .entry)) nodes (now (parent .exit)) (now (order .exit))
+        (now (place .exit)) (now (bl .exit)) (now (bw .exit)) ⌝ }
 {
     let mut half: [u16; 4096] = [0; 4096];
     tree::walk(s, nodes, parent, &mut half, order, place);
@@ -22,7 +23,8 @@ pub(crate) fn grounded(
     branches(s, marks, &half, n, bl, bw);
 }
 
-// For each node but 0 the length and the lifted weight of the branch to its parent, a marked one as the marks crate has it.
+// For each node but 0 the length and the lifted weight of the branch to its parent,
+// a marked one as the marks crate has it.
 fn branches(
     s: &[u8],
     marks: &[u16],
@@ -32,7 +34,8 @@ fn branches(
     bw: &mut [u64; 4096],
 )
     requires { ⌜ Readable (now s) n (now half) ⌝ }
-    ensures { λ _. ⌜ Branches (now (s .entry)) (now (marks .entry)) (now (half .entry)) n (now (bl .exit)) (now (bw .exit)) ⌝ }
+    ensures { λ _. ⌜ Branches (now (s .entry)) (now (marks .entry)) (now (half .entry)) n (now (bl .exit))
+        (now (bw .exit)) ⌝ }
 {
     arrays::fill_long(bl, 0);
     arrays::fill_long(bw, 0);

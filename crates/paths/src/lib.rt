@@ -1,4 +1,5 @@
-// The lengths and the lifted weights of the paths from one node to every node: one climb from it to node 0, then one sweep over the order of the walk, each node's value from its parent's.
+// The lengths and the lifted weights of the paths from one node to every node: one climb from it to node 0, then one
+// sweep over the order of the walk, each node's value from its parent's.
 ghost use Prim.Native.Nat.{_≤_};
 ghost use mathlib.Core.Path.{_≡_};
 ghost use lib.ListN.{length};
@@ -12,7 +13,8 @@ struct Far {
     weight: u64,
 }
 
-// No flag of the n nodes is set. The places past them are left: who sweeps from many nodes of a small net would pay for all 4,096 each time.
+// No flag of the n nodes is set. The places past them are left: who sweeps from many nodes of a small net would pay for
+// all 4,096 each time.
 fn clear(above: &mut [u16; 4096], n: usize)
     requires { ⌜ (n ≤ 4096) × (length (now above) ≡ 4096) ⌝ }
     ensures { λ _. ⌜ Cleared n (now (above .exit)) ⌝ }
@@ -35,7 +37,9 @@ fn climb(
     above: &mut [u16; 4096],
 ) -> Far
     requires { ⌜ Climbable n a (now parent) (now place) (now bl) (now bw) × (length (now above) ≡ 4096) ⌝ }
-    ensures { λ r. ⌜ ((k : Climbable n a (now (parent .entry)) (now (place .entry)) (now (bl .entry)) (now (bw .entry))) → Marked (k .ground) a (r .length) (r .weight) (now (above .exit))) × (length (now (above .exit)) ≡ 4096) ⌝ }
+    ensures { λ r. ⌜ ((k : Climbable n a (now (parent .entry)) (now (place .entry)) (now (bl .entry)) (now (bw .entry)))
+        → Marked (k .ground) a (r .length) (r .weight) (now (above .exit)))
+        × (length (now (above .exit)) ≡ 4096) ⌝ }
 {
     clear(above, n);
     let mut x = a;
@@ -84,8 +88,11 @@ fn sweep(
     len: &mut [u64; 4096],
     wt: &mut [u64; 4096],
 )
-    requires { ⌜ Sweepable n a l w (now parent) (now order) (now bl) (now bw) (now above) × (length (now len) ≡ 4096) × (length (now wt) ≡ 4096) ⌝ }
-    ensures { λ _. ⌜ Sweeping n a l w (now (parent .entry)) (now (order .entry)) (now (bl .entry)) (now (bw .entry)) (now (above .entry)) n (now (len .exit)) (now (wt .exit)) ⌝ }
+    requires { ⌜ Sweepable n a l w (now parent) (now order) (now bl) (now bw) (now above)
+        × (length (now len) ≡ 4096)
+        × (length (now wt) ≡ 4096) ⌝ }
+    ensures { λ _. ⌜ Sweeping n a l w (now (parent .entry)) (now (order .entry)) (now (bl .entry)) (now (bw .entry))
+        (now (above .entry)) n (now (len .exit)) (now (wt .exit)) ⌝ }
 {
     len[0] = l;
     wt[0] = w;
@@ -117,8 +124,12 @@ pub fn paths_from(
     len: &mut [u64; 4096],
     wt: &mut [u64; 4096],
 )
-    requires { ⌜ Begun n a (now parent) (now order) (now place) (now bl) (now bw) × Lent (now above) (now len) (now wt) ⌝ }
-    ensures { λ _. ⌜ ((g : Ground n (now (parent .entry)) (now (order .entry)) (now (place .entry)) (now (bl .entry)) (now (bw .entry))) → Paths g a (now (len .exit)) (now (wt .exit))) × Lent (now (above .exit)) (now (len .exit)) (now (wt .exit)) ⌝ }
+    requires { ⌜ Begun n a (now parent) (now order) (now place) (now bl) (now bw)
+        × Lent (now above) (now len) (now wt) ⌝ }
+    ensures { λ _. ⌜ ((g : Ground n (now (parent .entry)) (now (order .entry)) (now (place .entry)) (now (bl .entry))
+        (now (bw .entry)))
+        → Paths g a (now (len .exit)) (now (wt .exit)))
+        × Lent (now (above .exit)) (now (len .exit)) (now (wt .exit)) ⌝ }
 {
     let r = climb(parent, place, bl, bw, n, a, above);
     let l = r.length;

@@ -24,7 +24,8 @@ pub(crate) fn lay_names(spot: &[u16; 4096], n: usize, names: &mut [u16; 4096])
 pub(crate) fn lay_stops(spot: &[u16; 4096], size: &[u16; 4096], n: usize, stops: &mut [u16; 4096])
     requires { ⌜ Spots n (now spot) ⌝ }
     requires { ⌜ ((v : ℕ) → v < n → at (now spot) v + at (now size) v ≤ n) ⌝ }
-    ensures { λ _. ⌜ Laid 0 n (now (spot .entry)) (λ v. at (now (spot .entry)) v + at (now (size .entry)) v) (now (stops .exit)) ⌝ }
+    ensures { λ _. ⌜ Laid 0 n (now (spot .entry)) (λ v. at (now (spot .entry)) v + at (now (size .entry)) v)
+        (now (stops .exit)) ⌝ }
 {
     fill(stops, 0);
     let mut v = 0;
@@ -39,7 +40,8 @@ pub(crate) fn lay_stops(spot: &[u16; 4096], size: &[u16; 4096], n: usize, stops:
 pub(crate) fn lay_spots(spot: &[u16; 4096], from: &[u16; 4096], n: usize, to: &mut [u16; 4096])
     requires { ⌜ Spots n (now spot) ⌝ }
     requires { ⌜ ((v : ℕ) → 1 ≤ v → v < n → at (now from) v < n) ⌝ }
-    ensures { λ _. ⌜ Laid 1 n (now (spot .entry)) (λ v. at (now (spot .entry)) (at (now (from .entry)) v)) (now (to .exit)) ⌝ }
+    ensures { λ _. ⌜ Laid 1 n (now (spot .entry)) (λ v. at (now (spot .entry)) (at (now (from .entry)) v))
+        (now (to .exit)) ⌝ }
 {
     fill(to, 0);
     let mut v = 1;

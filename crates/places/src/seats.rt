@@ -1,4 +1,5 @@
-// Each node's place, its spot, forward over the walk: a node, then the trees that hang from it one after the other, then the rest of its spine.
+// Each node's place, its spot, forward over the walk: a node, then the trees that hang from it one after the other,
+// then the rest of its spine.
 ghost use Prim.Native.Nat.{_<_};
 ghost use Rattle.arrays.specs.Filled.{at};
 ghost use Rattle.tree.specs.Grown.{Grown};
@@ -24,7 +25,8 @@ fn seat_of(
 ) -> Seat
     requires { ⌜ (p < 4096) × (v < 4096) ⌝ }
     requires { ⌜ Room (at (now spot) p) (at (now next) p) (at (now size) p) (at (now size) v) ⌝ }
-    ensures { λ r. ⌜ Put (at (now (head .entry)) v) (at (now (head .entry)) p) (at (now (spot .entry)) p) (at (now (next .entry)) p) (at (now (size .entry)) p) (at (now (size .entry)) v) (r .spot) (r .next) ⌝ }
+    ensures { λ r. ⌜ Put (at (now (head .entry)) v) (at (now (head .entry)) p) (at (now (spot .entry)) p)
+        (at (now (next .entry)) p) (at (now (size .entry)) p) (at (now (size .entry)) v) (r .spot) (r .next) ⌝ }
 {
     if head[v] == head[p] {
         return Seat {
@@ -51,7 +53,8 @@ pub(crate) fn seats(
 )
     requires { ⌜ Grown n (now parent) (now order) (now place) ⌝ }
     requires { ⌜ SizesAll n (now parent) (now size) ⌝ }
-    ensures { λ _. ⌜ Seating n (now (parent .entry)) (now (place .entry)) (now (head .entry)) (now (size .entry)) n (now (spot .exit)) (now (next .exit)) ⌝ }
+    ensures { λ _. ⌜ Seating n (now (parent .entry)) (now (place .entry)) (now (head .entry)) (now (size .entry)) n
+        (now (spot .exit)) (now (next .exit)) ⌝ }
 {
     fill(spot, 0);
     fill(next, 1);

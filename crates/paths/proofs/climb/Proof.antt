@@ -1,4 +1,5 @@
--- `paths::climb` goes up from a to node 0. The invariant: it has come to x, with the length and the lifted weight of the path from a, and what it passed is marked. The place falls.
+-- `paths::climb` goes up from a to node 0. The invariant: it has come to x, with the length and the lifted weight of
+-- the path from a, and what it passed is marked. The place falls.
 use Prim.Native.Nat.{_<_}
 use mathlib.Core.Path.{refl}
 use native.Mathlib.Omega.{arith}
@@ -10,7 +11,8 @@ use Rattle.paths.proofs.climb.Statement.{statement}
 use Rattle.paths.proofs.climb.Tie as tie
 
 abbrev Inv-loop : tie.InvT-loop
-Inv-loop parent place bl bw n a above₀ x₀ l₀ w₀ above x l w = Climbing n a parent place bl bw x l w above × Climbable n a parent place bl bw × (x < 4096)
+Inv-loop parent place bl bw n a above₀ x₀ l₀ w₀ above x l w =
+    Climbing n a parent place bl bw x l w above × Climbable n a parent place bl bw × (x < 4096)
 
 abbrev μ-loop : tie.MeasureT-loop
 μ-loop parent place bl bw n a above₀ x₀ l₀ w₀ above x l w = at place x
@@ -19,7 +21,10 @@ clear-requires : tie.Need-clear-requires Inv-loop μ-loop
 clear-requires c κs = (c .before .pre .0 .ground .grown .some .1, c .before .pre .1)
 
 loop-holds : tie.Need-loop-holds Inv-loop μ-loop
-loop-holds c = let h = climbing-start (c .clear .ensures) in (h, c .before .before .pre .0, climb-node h (c .before .before .pre .0))
+loop-holds c =
+    let pre = c .before .before .pre in
+    let h = climbing-start (c .clear .ensures) in
+    (h, pre .0, climb-node h (pre .0))
 
 mul-above : tie.Need-mul-above Inv-loop μ-loop
 mul-above c = omega arith
@@ -34,7 +39,10 @@ element-copy-out-l : tie.Need-element-copy-out-l Inv-loop μ-loop
 element-copy-out-l c = omega arith
 
 add-l : tie.Need-add-l Inv-loop μ-loop
-add-l c = let h = climb-fits (c .before .before .loop .inv .0) (c .before .before .loop .inv .1) (c .before .loop-test .taken) in omega (arith, h .0, h .1, h .2, h .3, h .4)
+add-l c =
+    let loop-inv = c .before .before .loop .inv in
+    let h = climb-fits (loop-inv .0) (loop-inv .1) (c .before .loop-test .taken) in
+    omega (arith, h .0, h .1, h .2, h .3, h .4)
 
 mul-w : tie.Need-mul-w Inv-loop μ-loop
 mul-w c = omega arith
@@ -43,10 +51,16 @@ element-copy-out-w : tie.Need-element-copy-out-w Inv-loop μ-loop
 element-copy-out-w c = omega arith
 
 add-w : tie.Need-add-w Inv-loop μ-loop
-add-w c = let h = climb-fits (c .before .before .before .loop .inv .0) (c .before .before .before .loop .inv .1) (c .before .before .loop-test .taken) in omega (arith, h .0, h .1, h .2, h .3, h .4)
+add-w c =
+    let loop-inv = c .before .before .before .loop .inv in
+    let h = climb-fits (loop-inv .0) (loop-inv .1) (c .before .before .loop-test .taken) in
+    omega (arith, h .0, h .1, h .2, h .3, h .4)
 
 sub-w : tie.Need-sub-w Inv-loop μ-loop
-sub-w c = let h = climb-fits (c .before .before .before .loop .inv .0) (c .before .before .before .loop .inv .1) (c .before .before .loop-test .taken) in omega (arith, h .0, h .1, h .2, h .3, h .4)
+sub-w c =
+    let loop-inv = c .before .before .before .loop .inv in
+    let h = climb-fits (loop-inv .0) (loop-inv .1) (c .before .before .loop-test .taken) in
+    omega (arith, h .0, h .1, h .2, h .3, h .4)
 
 mul-wide : tie.Need-mul-wide Inv-loop μ-loop
 mul-wide c = omega arith
@@ -58,12 +72,17 @@ wide-requires : tie.Need-wide-requires Inv-loop μ-loop
 wide-requires c κs = search needs
 
 loop-less : tie.Need-loop-less Inv-loop μ-loop
-loop-less c = climb-less (c .before .before .before .before .before .loop .inv .0) (c .before .before .before .before .before .loop .inv .1) (c .before .before .before .before .loop-test .taken) (c .wide .result) (c .wide .ensures .0)
+loop-less c =
+    let loop-test-taken = c .before .before .before .before .loop-test .taken in
+    let loop-inv = c .before .before .before .before .before .loop .inv in
+    climb-less (loop-inv .0) (loop-inv .1) loop-test-taken (c .wide .result) (c .wide .ensures .0)
 
 loop-again : tie.Need-loop-again Inv-loop μ-loop
 loop-again c =
-    let h = climbing-step (c .before .before .before .before .before .loop .inv .0) (c .before .before .before .before .loop-test .taken) _ _ _ (c .wide .ensures .0) refl refl in
-    (h, c .before .before .before .before .before .loop .inv .1, climb-node h (c .before .before .before .before .before .loop .inv .1))
+    let loop-test-taken = c .before .before .before .before .loop-test .taken in
+    let loop-inv = c .before .before .before .before .before .loop .inv in
+    let h = climbing-step (loop-inv .0) loop-test-taken _ _ _ (c .wide .ensures .0) refl refl in
+    (h, loop-inv .1, climb-node h (loop-inv .1))
 
 returns : tie.Need-returns Inv-loop μ-loop
 returns c = (climbing-end (c .before .loop .inv .0) (c .loop-test .left), c .before .loop .inv .0 .long)

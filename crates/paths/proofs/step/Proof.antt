@@ -15,8 +15,14 @@ sub-t9 c = search needs
 
 returns : tie.Need-returns
 returns c =
-    let h = c .before .pre .nearer (c .if1 .taken) in
-    record { near-l = λ _. omega (arith, h); near-w = λ _. omega (arith, c .before .pre .w-big, c .before .pre .y-small); far-l = λ m. absurd (m (c .if1 .taken)); far-w = λ m. absurd (m (c .if1 .taken)) }
+    let pre = c .before .pre in
+    let h = pre .nearer (c .if1 .taken) in
+    record {
+      near-l = λ _. omega (arith, h);
+      near-w = λ _. omega (arith, pre .w-big, pre .y-small);
+      far-l = λ m. absurd (m (c .if1 .taken));
+      far-w = λ m. absurd (m (c .if1 .taken));
+    }
 
 add-t10 : tie.Need-add-t10
 add-t10 c = search needs

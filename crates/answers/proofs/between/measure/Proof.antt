@@ -21,13 +21,20 @@ returns-3 : tie.Need-returns-3
 returns-3 c = passed (omega (arith, c .before .before .before .wide .ensures)) (refused (λ t. omega (arith, t .second)))
 
 returns-4 : tie.Need-returns-4
-returns-4 c = passed (omega (arith, c .before .before .before .before .wide .ensures)) (refused (λ t. t .apart (omega arith)))
+returns-4 c =
+    let wide-ensures = c .before .before .before .before .wide .ensures in
+    passed (omega (arith, wide-ensures)) (refused (λ t. t .apart (omega arith)))
 
 show-requires : tie.Need-show-requires
-show-requires c κs = (c .before .before .before .before .before .before .before .pre, record { first = omega arith; second = omega arith; apart = λ e. omega (arith, e) })
+show-requires c κs =
+    let pre = c .before .before .before .before .before .before .before .pre in
+    (pre, record { first = omega arith; second = omega arith; apart = λ e. omega (arith, e) })
 
 returns-5 : tie.Need-returns-5
-returns-5 c = passed (omega (arith, c .before .before .before .before .before .wide .ensures)) (passed (record { first = omega arith; second = omega arith; apart = λ e. omega (arith, e) }) (c .show .ensures))
+returns-5 c =
+    let wide-ensures = c .before .before .before .before .before .wide .ensures in
+    passed (omega (arith, wide-ensures))
+    (passed (record { first = omega arith; second = omega arith; apart = λ e. omega (arith, e) }) (c .show .ensures))
 
 pub measure-spec : {M : Type 1} → statement M
 measure-spec =

@@ -15,13 +15,23 @@ enum-known-o-2 : tie.Need-enum-known-o-2
 enum-known-o-2 c = search needs
 
 measure-requires : tie.Need-measure-requires
-measure-requires c κs = admitted (c .before .before .before .before .before .before .args .s .now) _ _ (rw (c .before .o2 .given .1) at (c .before .before .before .accept .ensures)) .net
+measure-requires c κs =
+    let accept-ensures = c .before .before .before .accept .ensures in
+    let args = c .before .before .before .before .before .before .args in
+    admitted (args .s .now) _ _ (rw (c .before .o2 .given .1) at accept-ensures) .net
 
 returns : tie.Need-returns
-returns c = refused-on refusal (c .before .before .before .before .before .before .args .s .now) _ (rw (c .before .o .given .1) at (c .before .before .before .accept .ensures))
+returns c =
+    let accept-ensures = c .before .before .before .accept .ensures in
+    let args = c .before .before .before .before .before .before .args in
+    refused-on refusal (args .s .now) _ (rw (c .before .o .given .1) at accept-ensures)
 
 returns-2 : tie.Need-returns-2
-returns-2 c = let p = rw (c .before .before .o2 .given .1) at (c .before .before .before .before .accept .ensures) in passed-on refusal (c .before .before .before .before .before .before .before .args .s .now) _ _ p (rw (admitted (c .before .before .before .before .before .before .before .args .s .now) _ _ p .nodes) at (c .measure .ensures))
+returns-2 c =
+    let accept-ensures = c .before .before .before .before .accept .ensures in
+    let args = c .before .before .before .before .before .before .before .args in
+    let p = rw (c .before .before .o2 .given .1) at accept-ensures in
+    passed-on refusal (args .s .now) _ _ p (rw (admitted (args .s .now) _ _ p .nodes) at (c .measure .ensures))
 
 pub pair-spec : {M : Type 1} → statement M
 pair-spec =

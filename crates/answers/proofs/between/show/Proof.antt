@@ -1,4 +1,5 @@
--- `show` meets its contract: the walk, the branches under the marks, the way and the hops are those of the accepted net.
+-- `show` meets its contract: the walk, the branches under the marks, the way and the hops are those of the accepted
+-- net.
 use Rattle.answers.proofs.PairShown.{pair-grown, pair-spined, pair-begun, pair-short, pair-shown}
 use native.Mathlib.Omega.{arith}
 use borrow.Author.Needs.{needs}
@@ -20,22 +21,73 @@ grounded-requires : tie.Need-grounded-requires
 grounded-requires c κs = search needs
 
 way-between-requires : tie.Need-way-between-requires
-way-between-requires c κs = pair-begun (c .before .before .before .before .before .before .before .before .before .before .before .before .before .wide .ensures .0) (c .before .before .before .before .before .before .before .before .before .before .before .before .wide2 .ensures .0) (c .before .before .before .before .before .before .before .before .before .before .before .wide3 .ensures .0) (c .before .before .before .before .before .before .before .before .before .before .before .before .before .before .before .before .pre .1) (c .before .before .before .before .before .grounded .ensures)
+way-between-requires c κs =
+    let grounded-ensures = c .before .before .before .before .before .grounded .ensures in
+    let back = c .before .before .before .before .before .before .before .before .before .before .before in
+    let wide3-ensures = back .wide3 .ensures in
+    let wide2-ensures = back .before .wide2 .ensures in
+    let wide-ensures = back .before .before .wide .ensures in
+    let pre = back .before .before .before .before .before .pre in
+    pair-begun (wide-ensures .0) (wide2-ensures .0) (wide3-ensures .0) (pre .1) grounded-ensures
 
 heads-of-requires : tie.Need-heads-of-requires
-heads-of-requires c κs = pair-grown (c .before .before .before .before .before .before .before .before .before .before .before .before .before .before .before .before .before .before .wide .ensures .0) (c .before .before .before .before .before .before .before .before .before .before .before .before .before .before .before .before .before .wide2 .ensures .0) (c .before .before .before .before .before .before .before .before .before .before .before .before .before .before .before .before .wide3 .ensures .0) (c .before .before .before .before .before .before .before .before .before .before .before .before .before .before .before .before .before .before .before .before .before .pre .1) (c .before .before .before .before .before .before .before .before .before .before .grounded .ensures)
+heads-of-requires c κs =
+    let back = c .before .before .before .before .before .before .before .before .before .before in
+    let grounded-ensures = back .grounded .ensures in
+    let wide3-ensures = back .before .before .before .before .before .before .wide3 .ensures in
+    let wide2-ensures = back .before .before .before .before .before .before .before .wide2 .ensures in
+    let wide-ensures = back .before .before .before .before .before .before .before .before .wide .ensures in
+    let back = back .before .before .before .before .before .before .before .before .before .before .before in
+    let pre = back .pre in
+    pair-grown (wide-ensures .0) (wide2-ensures .0) (wide3-ensures .0) (pre .1) grounded-ensures
 
 hops-requires : tie.Need-hops-requires
-hops-requires c κs = pair-spined (c .before .before .before .before .before .before .before .before .before .before .before .before .before .before .before .before .before .before .before .before .before .before .wide .ensures .0) (c .before .before .before .before .before .before .before .before .before .before .before .before .before .before .before .before .before .before .before .before .before .wide2 .ensures .0) (c .before .before .before .before .before .before .before .before .before .before .before .before .before .before .before .before .before .before .before .before .wide3 .ensures .0) (c .before .before .before .before .before .before .before .before .before .before .before .before .before .before .before .before .before .before .before .before .before .before .before .before .before .pre .1) (c .before .before .before .before .before .before .before .before .before .before .before .before .before .before .grounded .ensures) (c .before .before .before .heads-of .ensures)
+hops-requires c κs =
+    let heads-of-ensures = c .before .before .before .heads-of .ensures in
+    let back = c .before .before .before .before .before .before .before .before .before .before .before in
+    let back = back .before .before .before in
+    let grounded-ensures = back .grounded .ensures in
+    let wide3-ensures = back .before .before .before .before .before .before .wide3 .ensures in
+    let wide2-ensures = back .before .before .before .before .before .before .before .wide2 .ensures in
+    let wide-ensures = back .before .before .before .before .before .before .before .before .wide .ensures in
+    let back = back .before .before .before .before .before .before .before .before .before .before .before in
+    let pre = back .pre in
+    pair-spined (wide-ensures .0) (wide2-ensures .0) (wide3-ensures .0) (pre .1) grounded-ensures heads-of-ensures
 
 lowered-requires : tie.Need-lowered-requires
 lowered-requires c κs = search needs
 
 cast-t37 : tie.Need-cast-t37
-cast-t37 c = omega (arith, pair-short (c .before .before .before .before .before .before .before .before .before .before .before .before .before .before .before .before .before .before .before .before .before .before .before .before .wide .ensures .0) (c .before .before .before .before .before .before .before .before .before .before .before .before .before .before .before .before .before .before .before .before .before .before .before .wide2 .ensures .0) (c .before .before .before .before .before .before .before .before .before .before .before .before .before .before .before .before .before .before .before .before .before .before .wide3 .ensures .0) (c .before .before .before .before .before .before .before .before .before .before .before .before .before .before .before .before .before .before .before .before .before .before .before .before .before .before .before .pre .1) (c .before .before .before .before .before .before .before .before .before .before .before .before .before .before .before .before .grounded .ensures) (c .before .before .before .before .before .before .before .before .before .before .way-between .ensures) (c .lowered .ensures))
+cast-t37 c =
+    let back = c .before .before .before .before .before .before .before .before .before .before in
+    let way-between-ensures = back .way-between .ensures in
+    let grounded-ensures = back .before .before .before .before .before .before .grounded .ensures in
+    let back = back .before .before .before .before .before .before .before .before .before .before .before in
+    let back = back .before in
+    let wide3-ensures = back .wide3 .ensures in
+    let wide2-ensures = back .before .wide2 .ensures in
+    let wide-ensures = back .before .before .wide .ensures in
+    let pre = back .before .before .before .before .before .pre in
+    omega (
+      arith,
+      pair-short (wide-ensures .0) (wide2-ensures .0) (wide3-ensures .0) (pre .1) grounded-ensures way-between-ensures
+          (c .lowered .ensures),
+    )
 
 returns : tie.Need-returns
-returns c = rw (toZ-ofZ w64 (c .lowered .result) (record { sfits = c .lowered .ok })) (pair-shown (c .before .before .before .before .before .before .before .before .before .before .before .before .before .before .before .before .before .before .before .before .before .before .before .before .wide .ensures .0) (c .before .before .before .before .before .before .before .before .before .before .before .before .before .before .before .before .before .before .before .before .before .before .before .wide2 .ensures .0) (c .before .before .before .before .before .before .before .before .before .before .before .before .before .before .before .before .before .before .before .before .before .before .wide3 .ensures .0) (c .before .before .before .before .before .before .before .before .before .before .before .before .before .before .before .before .before .before .before .before .before .before .before .before .before .before .before .pre .1) (c .before .before .before .before .before .before .before .before .before .before .before .before .before .before .before .before .grounded .ensures) (c .before .before .before .before .before .before .before .before .before .before .way-between .ensures) (c .lowered .ensures) (c .before .hops .ensures))
+returns c =
+    let back = c .before .before .before .before .before .before .before .before .before .before in
+    let way-between-ensures = back .way-between .ensures in
+    let grounded-ensures = back .before .before .before .before .before .before .grounded .ensures in
+    let back = back .before .before .before .before .before .before .before .before .before .before .before in
+    let back = back .before in
+    let wide3-ensures = back .wide3 .ensures in
+    let wide2-ensures = back .before .wide2 .ensures in
+    let wide-ensures = back .before .before .wide .ensures in
+    let pre = back .before .before .before .before .before .pre in
+    rw (toZ-ofZ w64 (c .lowered .result) (record { sfits = c .lowered .ok }))
+    (pair-shown (wide-ensures .0) (wide2-ensures .0) (wide3-ensures .0) (pre .1) grounded-ensures way-between-ensures
+    (c .lowered .ensures) (c .before .hops .ensures))
 
 pub show-spec : {M : Type 1} → statement M
 show-spec =

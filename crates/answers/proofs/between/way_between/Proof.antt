@@ -20,7 +20,11 @@ array-read-weight : tie.Need-array-read-weight
 array-read-weight c = search needs
 
 returns : tie.Need-returns
-returns c = λ g. let p = c .paths-from .ensures .0 g in record { value = λ w d. p .value _ (c .before .before .before .before .pre .1) w d; small = p .small _ (c .before .before .before .before .pre .1) }
+returns c =
+    let pre = c .before .before .before .before .pre in
+    λ g.
+    let p = c .paths-from .ensures .0 g in
+    record { value = λ w d. p .value _ (pre .1) w d; small = p .small _ (pre .1) }
 
 pub way-between-spec : {M : Type 1} → statement M
 way-between-spec =

@@ -23,7 +23,9 @@ fill-long-requires-2 : tie.Need-fill-long-requires-2 Inv-loop μ-loop
 fill-long-requires-2 c κs = search needs
 
 loop-holds : tie.Need-loop-holds Inv-loop μ-loop
-loop-holds c = (branches-none (c .before .before .fill-long .ensures) (c .fill-long2 .ensures), c .before .before .before .before .before .before .pre, omega arith, c .before .before .before .before .before .before .pre .net .few)
+loop-holds c =
+    let pre = c .before .before .before .before .before .before .pre in
+    (branches-none (c .before .before .fill-long .ensures) (c .fill-long2 .ensures), pre, omega arith, pre .net .few)
 
 mul-wide : tie.Need-mul-wide Inv-loop μ-loop
 mul-wide c = omega arith
@@ -47,16 +49,24 @@ long-requires-2 : tie.Need-long-requires-2 Inv-loop μ-loop
 long-requires-2 c κs = search needs
 
 mul-bl : tie.Need-mul-bl Inv-loop μ-loop
-mul-bl c = omega (arith, c .before .before .before .before .before .before .before .loop .inv .0 .bl-long, c .before .before .before .before .before .before .before .loop .inv .0 .bw-long)
+mul-bl c =
+    let loop-inv = c .before .before .before .before .before .before .before .loop .inv in
+    omega (arith, loop-inv .0 .bl-long, loop-inv .0 .bw-long)
 
 element-write-bl : tie.Need-element-write-bl Inv-loop μ-loop
-element-write-bl c = omega (arith, c .before .before .before .before .before .before .before .loop .inv .0 .bl-long, c .before .before .before .before .before .before .before .loop .inv .0 .bw-long)
+element-write-bl c =
+    let loop-inv = c .before .before .before .before .before .before .before .loop .inv in
+    omega (arith, loop-inv .0 .bl-long, loop-inv .0 .bw-long)
 
 mul-bw : tie.Need-mul-bw Inv-loop μ-loop
-mul-bw c = omega (arith, c .before .before .before .before .before .before .before .loop .inv .0 .bl-long, c .before .before .before .before .before .before .before .loop .inv .0 .bw-long)
+mul-bw c =
+    let loop-inv = c .before .before .before .before .before .before .before .loop .inv in
+    omega (arith, loop-inv .0 .bl-long, loop-inv .0 .bw-long)
 
 element-write-bw : tie.Need-element-write-bw Inv-loop μ-loop
-element-write-bw c = omega (arith, c .before .before .before .before .before .before .before .loop .inv .0 .bl-long, c .before .before .before .before .before .before .before .loop .inv .0 .bw-long)
+element-write-bw c =
+    let loop-inv = c .before .before .before .before .before .before .before .loop .inv in
+    omega (arith, loop-inv .0 .bl-long, loop-inv .0 .bw-long)
 
 add-x : tie.Need-add-x Inv-loop μ-loop
 add-x c = omega arith
@@ -66,12 +76,20 @@ loop-less c = omega arith
 
 loop-again : tie.Need-loop-again Inv-loop μ-loop
 loop-again c =
-    let t = c .before .before .before .before .before .before .before .loop .inv .1 .net in
-    let h = row-in (c .before .before .before .before .before .before .before .loop .inv .1) (c .before .before .before .before .before .before .before .loop .inv .2) (c .before .before .before .before .before .before .loop-test .taken) (c .before .before .before .before .wide .ensures .0) in (
-      branches-more _ _ _ (omega arith) (ap (λ h. h / 2) (c .before .before .before .before .wide .ensures .0)) (c .before .before .long .ensures .0 ∙ reads-length (t .stands _ h) (c .before .before .before .row-at .ensures)) (rw (c .long2 .ensures .0) (under-lifts t h (c .before .lifted-under .ensures))) (omega (arith, c .long2 .ensures .0, under-small t h (c .before .lifted-under .ensures))) (c .before .before .before .before .before .before .before .loop .inv .0),
-      c .before .before .before .before .before .before .before .loop .inv .1,
+    let lifted-under-ensures = c .before .lifted-under .ensures in
+    let row-at-ensures = c .before .before .before .row-at .ensures in
+    let wide-ensures = c .before .before .before .before .wide .ensures in
+    let loop-test-taken = c .before .before .before .before .before .before .loop-test .taken in
+    let loop-inv = c .before .before .before .before .before .before .before .loop .inv in
+    let t = loop-inv .1 .net in
+    let h = row-in (loop-inv .1) (loop-inv .2) loop-test-taken (wide-ensures .0) in (
+      branches-more _ _ _ (omega arith) (ap (λ h. h / 2) (wide-ensures .0))
+          (c .before .before .long .ensures .0 ∙ reads-length (t .stands _ h) row-at-ensures)
+          (rw (c .long2 .ensures .0) (under-lifts t h lifted-under-ensures))
+          (omega (arith, c .long2 .ensures .0, under-small t h lifted-under-ensures)) (loop-inv .0),
+      loop-inv .1,
       omega arith,
-      c .before .before .before .before .before .before .before .loop .inv .3,
+      loop-inv .3,
     )
 
 returns : tie.Need-returns Inv-loop μ-loop

@@ -11,10 +11,18 @@ wide-requires : tie.Need-wide-requires
 wide-requires c κs = search needs
 
 branches-requires : tie.Need-branches-requires
-branches-requires c κs = rw (c .before .before .before .wide .ensures .0) (readable (c .before .before .before .before .before .before .before .before .before .before .before .pre) (c .before .before .before .before .walk .ensures))
+branches-requires c κs =
+    let wide-ensures = c .before .before .before .wide .ensures in
+    let walk-ensures = c .before .before .before .before .walk .ensures in
+    let pre = c .before .before .before .before .before .before .before .before .before .before .before .pre in
+    rw (wide-ensures .0) (readable pre walk-ensures)
 
 returns : tie.Need-returns
-returns c = record { net = c .before .before .before .before .before .before .before .before .before .before .before .before .pre; half = _; walked = c .before .before .before .before .before .walk .ensures; branches = rw (c .before .before .before .before .wide .ensures .0) at (c .branches .ensures) }
+returns c =
+    let wide-ensures = c .before .before .before .before .wide .ensures in
+    let walk-ensures = c .before .before .before .before .before .walk .ensures in
+    let pre = c .before .before .before .before .before .before .before .before .before .before .before .before .pre in
+    record { net = pre; half = _; walked = walk-ensures; branches = rw (wide-ensures .0) at (c .branches .ensures) }
 
 pub grounded-spec : {M : Type 1} → statement M
 grounded-spec = tie.close (tie.spec walk-requires wide-requires branches-requires returns)

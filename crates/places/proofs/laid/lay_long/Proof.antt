@@ -1,4 +1,5 @@
--- `places::lay_long` meets its contract: the invariant says that the nodes below v have put theirs. The measure is what is left of the nodes.
+-- `places::lay_long` meets its contract: the invariant says that the nodes below v have put theirs. The measure is what
+-- is left of the nodes.
 use Prim.Native.Nat.{_-_, _≤_}
 use mathlib.Core.Path.{_≡_, refl}
 use native.Mathlib.Omega.{arith}
@@ -19,7 +20,9 @@ fill-long-requires : tie.Need-fill-long-requires Inv-loop μ-loop
 fill-long-requires c κs = search needs
 
 loop-holds : tie.Need-loop-holds Inv-loop μ-loop
-loop-holds c = (omega arith, omega (arith, c .before .before .pre .some), c .before .before .pre, laid-none _ _ _ _ (c .fill-long .ensures))
+loop-holds c =
+    let pre = c .before .before .pre in
+    (omega arith, omega (arith, pre .some), pre, laid-none _ _ _ _ (c .fill-long .ensures))
 
 mul-wide : tie.Need-mul-wide Inv-loop μ-loop
 mul-wide c = omega (arith, c .before .loop .inv .2 .small)
@@ -37,10 +40,16 @@ element-copy-out-to : tie.Need-element-copy-out-to Inv-loop μ-loop
 element-copy-out-to c = omega (arith, c .before .before .before .loop .inv .2 .small)
 
 mul-to-2 : tie.Need-mul-to-2 Inv-loop μ-loop
-mul-to-2 c = omega (arith, spot-small _ _ _ _ (c .before .before .before .before .loop .inv .2) (c .before .before .before .loop-test .taken) (c .before .wide .ensures .0))
+mul-to-2 c =
+    let loop-test-taken = c .before .before .before .loop-test .taken in
+    let loop-inv = c .before .before .before .before .loop .inv in
+    omega (arith, spot-small _ _ _ _ (loop-inv .2) loop-test-taken (c .before .wide .ensures .0))
 
 element-write-to : tie.Need-element-write-to Inv-loop μ-loop
-element-write-to c = omega (arith, spot-small _ _ _ _ (c .before .before .before .before .loop .inv .2) (c .before .before .before .loop-test .taken) (c .before .wide .ensures .0))
+element-write-to c =
+    let loop-test-taken = c .before .before .before .loop-test .taken in
+    let loop-inv = c .before .before .before .before .loop .inv in
+    omega (arith, spot-small _ _ _ _ (loop-inv .2) loop-test-taken (c .before .wide .ensures .0))
 
 add-v : tie.Need-add-v Inv-loop μ-loop
 add-v c = omega arith
@@ -50,8 +59,13 @@ loop-less c = omega arith
 
 loop-again : tie.Need-loop-again Inv-loop μ-loop
 loop-again c =
-    let h = c .before .before .before .before .loop .inv in
-    (omega arith, omega arith, h .2, laid-more _ _ _ _ _ _ _ _ (h .2) (h .0) (c .before .before .before .loop-test .taken) (c .before .wide .ensures .0) (refl) (h .3))
+    let loop-test-taken = c .before .before .before .loop-test .taken in
+    let h = c .before .before .before .before .loop .inv in (
+      omega arith,
+      omega arith,
+      h .2,
+      laid-more _ _ _ _ _ _ _ _ (h .2) (h .0) loop-test-taken (c .before .wide .ensures .0) (refl) (h .3),
+    )
 
 returns : tie.Need-returns Inv-loop μ-loop
 returns c =

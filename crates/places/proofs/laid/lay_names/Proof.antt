@@ -1,4 +1,5 @@
--- `places::lay_names` meets its contract: the invariant says that the nodes below v have put theirs. The measure is what is left of the nodes.
+-- `places::lay_names` meets its contract: the invariant says that the nodes below v have put theirs. The measure is
+-- what is left of the nodes.
 use Prim.Native.Nat.{_-_, _≤_}
 use mathlib.Core.Path.{_≡_, refl}
 use native.Mathlib.Omega.{arith}
@@ -19,7 +20,9 @@ fill-requires : tie.Need-fill-requires Inv-loop μ-loop
 fill-requires c κs = search needs
 
 loop-holds : tie.Need-loop-holds Inv-loop μ-loop
-loop-holds c = (omega arith, omega (arith, c .before .before .pre .some), c .before .before .pre, laid-none _ _ _ _ (c .fill .ensures))
+loop-holds c =
+    let pre = c .before .before .pre in
+    (omega arith, omega (arith, pre .some), pre, laid-none _ _ _ _ (c .fill .ensures))
 
 mul-wide : tie.Need-mul-wide Inv-loop μ-loop
 mul-wide c = omega (arith, c .before .loop .inv .2 .small)
@@ -34,10 +37,14 @@ cast-names : tie.Need-cast-names Inv-loop μ-loop
 cast-names c = omega (arith, c .before .before .before .loop .inv .2 .small)
 
 mul-names : tie.Need-mul-names Inv-loop μ-loop
-mul-names c = omega (arith, spot-small _ _ _ _ (c .before .before .before .loop .inv .2) (c .before .before .loop-test .taken) (c .wide .ensures .0))
+mul-names c =
+    let loop-inv = c .before .before .before .loop .inv in
+    omega (arith, spot-small _ _ _ _ (loop-inv .2) (c .before .before .loop-test .taken) (c .wide .ensures .0))
 
 element-write-names : tie.Need-element-write-names Inv-loop μ-loop
-element-write-names c = omega (arith, spot-small _ _ _ _ (c .before .before .before .loop .inv .2) (c .before .before .loop-test .taken) (c .wide .ensures .0))
+element-write-names c =
+    let loop-inv = c .before .before .before .loop .inv in
+    omega (arith, spot-small _ _ _ _ (loop-inv .2) (c .before .before .loop-test .taken) (c .wide .ensures .0))
 
 add-v : tie.Need-add-v Inv-loop μ-loop
 add-v c = omega arith
@@ -47,8 +54,12 @@ loop-less c = omega arith
 
 loop-again : tie.Need-loop-again Inv-loop μ-loop
 loop-again c =
-    let h = c .before .before .before .loop .inv in
-    (omega arith, omega arith, h .2, laid-more _ _ _ _ _ _ _ _ (h .2) (h .0) (c .before .before .loop-test .taken) (c .wide .ensures .0) (refl) (h .3))
+    let h = c .before .before .before .loop .inv in (
+      omega arith,
+      omega arith,
+      h .2,
+      laid-more _ _ _ _ _ _ _ _ (h .2) (h .0) (c .before .before .loop-test .taken) (c .wide .ensures .0) (refl) (h .3),
+    )
 
 returns : tie.Need-returns Inv-loop μ-loop
 returns c =

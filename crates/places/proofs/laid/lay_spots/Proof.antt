@@ -1,4 +1,5 @@
--- `places::lay_spots` meets its contract: the invariant says that the nodes below v have put theirs. The measure is what is left of the nodes.
+-- `places::lay_spots` meets its contract: the invariant says that the nodes below v have put theirs. The measure is
+-- what is left of the nodes.
 use Prim.Native.Nat.{ℕ, _-_, _≤_, _<_}
 use mathlib.Core.Path.{_≡_}
 use native.Mathlib.Omega.{arith}
@@ -10,7 +11,12 @@ use Rattle.places.proofs.laid.lay_spots.Statement.{statement}
 use Rattle.places.proofs.laid.lay_spots.Tie as tie
 
 abbrev Inv-loop : tie.InvT-loop
-Inv-loop spot from n to₀ v₀ to v = (1 ≤ v) × (v ≤ n) × Spots n spot × Laid 1 v spot (λ x. at spot (at from x)) to × ((x : ℕ) → 1 ≤ x → x < n → at from x < n)
+Inv-loop spot from n to₀ v₀ to v =
+    (1 ≤ v)
+    × (v ≤ n)
+    × Spots n spot
+    × Laid 1 v spot (λ x. at spot (at from x)) to
+    × ((x : ℕ) → 1 ≤ x → x < n → at from x < n)
 
 abbrev μ-loop : tie.MeasureT-loop
 μ-loop spot from n to₀ v₀ to v = n - v
@@ -19,7 +25,9 @@ fill-requires : tie.Need-fill-requires Inv-loop μ-loop
 fill-requires c κs = search needs
 
 loop-holds : tie.Need-loop-holds Inv-loop μ-loop
-loop-holds c = (omega arith, omega (arith, c .before .before .pre .0 .some), c .before .before .pre .0, laid-none _ _ _ _ (c .fill .ensures), c .before .before .pre .1)
+loop-holds c =
+    let pre = c .before .before .pre in
+    (omega arith, omega (arith, pre .0 .some), pre .0, laid-none _ _ _ _ (c .fill .ensures), pre .1)
 
 mul-wide : tie.Need-mul-wide Inv-loop μ-loop
 mul-wide c = omega (arith, c .before .loop .inv .2 .small)
@@ -40,16 +48,30 @@ wide-requires-2 : tie.Need-wide-requires-2 Inv-loop μ-loop
 wide-requires-2 c κs = search needs
 
 mul-to : tie.Need-mul-to Inv-loop μ-loop
-mul-to c = omega (arith, c .before .before .before .before .before .loop .inv .4 _ (c .before .before .before .before .before .loop .inv .0) (c .before .before .before .before .loop-test .taken), c .wide2 .ensures .0, c .before .before .before .before .before .loop .inv .2 .small)
+mul-to c =
+    let loop-test-taken = c .before .before .before .before .loop-test .taken in
+    let loop-inv = c .before .before .before .before .before .loop .inv in
+    omega (arith, loop-inv .4 _ (loop-inv .0) loop-test-taken, c .wide2 .ensures .0, loop-inv .2 .small)
 
 element-copy-out-to : tie.Need-element-copy-out-to Inv-loop μ-loop
-element-copy-out-to c = omega (arith, c .before .before .before .before .before .loop .inv .4 _ (c .before .before .before .before .before .loop .inv .0) (c .before .before .before .before .loop-test .taken), c .wide2 .ensures .0, c .before .before .before .before .before .loop .inv .2 .small)
+element-copy-out-to c =
+    let loop-test-taken = c .before .before .before .before .loop-test .taken in
+    let loop-inv = c .before .before .before .before .before .loop .inv in
+    omega (arith, loop-inv .4 _ (loop-inv .0) loop-test-taken, c .wide2 .ensures .0, loop-inv .2 .small)
 
 mul-to-2 : tie.Need-mul-to-2 Inv-loop μ-loop
-mul-to-2 c = omega (arith, spot-small _ _ _ _ (c .before .before .before .before .before .before .loop .inv .2) (c .before .before .before .before .before .loop-test .taken) (c .before .before .before .wide .ensures .0))
+mul-to-2 c =
+    let wide-ensures = c .before .before .before .wide .ensures in
+    let loop-test-taken = c .before .before .before .before .before .loop-test .taken in
+    let loop-inv = c .before .before .before .before .before .before .loop .inv in
+    omega (arith, spot-small _ _ _ _ (loop-inv .2) loop-test-taken (wide-ensures .0))
 
 element-write-to : tie.Need-element-write-to Inv-loop μ-loop
-element-write-to c = omega (arith, spot-small _ _ _ _ (c .before .before .before .before .before .before .loop .inv .2) (c .before .before .before .before .before .loop-test .taken) (c .before .before .before .wide .ensures .0))
+element-write-to c =
+    let wide-ensures = c .before .before .before .wide .ensures in
+    let loop-test-taken = c .before .before .before .before .before .loop-test .taken in
+    let loop-inv = c .before .before .before .before .before .before .loop .inv in
+    omega (arith, spot-small _ _ _ _ (loop-inv .2) loop-test-taken (wide-ensures .0))
 
 add-v : tie.Need-add-v Inv-loop μ-loop
 add-v c = omega arith
@@ -59,8 +81,16 @@ loop-less c = omega arith
 
 loop-again : tie.Need-loop-again Inv-loop μ-loop
 loop-again c =
-    let h = c .before .before .before .before .before .before .loop .inv in
-    (omega arith, omega arith, h .2, laid-more _ _ _ _ _ _ _ _ (h .2) (h .0) (c .before .before .before .before .before .loop-test .taken) (c .before .before .before .wide .ensures .0) (rw (c .before .wide2 .ensures .0)) (h .3), h .4)
+    let wide-ensures = c .before .before .before .wide .ensures in
+    let loop-test-taken = c .before .before .before .before .before .loop-test .taken in
+    let h = c .before .before .before .before .before .before .loop .inv in (
+      omega arith,
+      omega arith,
+      h .2,
+      laid-more _ _ _ _ _ _ _ _ (h .2) (h .0) loop-test-taken (wide-ensures .0) (rw (c .before .wide2 .ensures .0))
+          (h .3),
+      h .4,
+    )
 
 returns : tie.Need-returns Inv-loop μ-loop
 returns c =

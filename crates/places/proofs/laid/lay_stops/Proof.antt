@@ -1,4 +1,5 @@
--- `places::lay_stops` meets its contract: the invariant says that the nodes below v have put theirs. The measure is what is left of the nodes.
+-- `places::lay_stops` meets its contract: the invariant says that the nodes below v have put theirs. The measure is
+-- what is left of the nodes.
 use Prim.Native.Nat.{ℕ, _+_, _-_, _≤_, _<_}
 use mathlib.Core.Path.{_≡_, refl}
 use native.Mathlib.Omega.{arith}
@@ -10,7 +11,12 @@ use Rattle.places.proofs.laid.lay_stops.Statement.{statement}
 use Rattle.places.proofs.laid.lay_stops.Tie as tie
 
 abbrev Inv-loop : tie.InvT-loop
-Inv-loop spot size n stops₀ v₀ stops v = (0 ≤ v) × (v ≤ n) × Spots n spot × Laid 0 v spot (λ x. at spot x + at size x) stops × ((x : ℕ) → x < n → at spot x + at size x ≤ n)
+Inv-loop spot size n stops₀ v₀ stops v =
+    (0 ≤ v)
+    × (v ≤ n)
+    × Spots n spot
+    × Laid 0 v spot (λ x. at spot x + at size x) stops
+    × ((x : ℕ) → x < n → at spot x + at size x ≤ n)
 
 abbrev μ-loop : tie.MeasureT-loop
 μ-loop spot size n stops₀ v₀ stops v = n - v
@@ -19,7 +25,9 @@ fill-requires : tie.Need-fill-requires Inv-loop μ-loop
 fill-requires c κs = search needs
 
 loop-holds : tie.Need-loop-holds Inv-loop μ-loop
-loop-holds c = (omega arith, omega (arith, c .before .before .pre .0 .some), c .before .before .pre .0, laid-none _ _ _ _ (c .fill .ensures), c .before .before .pre .1)
+loop-holds c =
+    let pre = c .before .before .pre in
+    (omega arith, omega (arith, pre .0 .some), pre .0, laid-none _ _ _ _ (c .fill .ensures), pre .1)
 
 mul-wide : tie.Need-mul-wide Inv-loop μ-loop
 mul-wide c = omega (arith, c .before .loop .inv .2 .small)
@@ -43,13 +51,22 @@ element-copy-out-stops-2 : tie.Need-element-copy-out-stops-2 Inv-loop μ-loop
 element-copy-out-stops-2 c = omega (arith, c .before .before .before .before .loop .inv .2 .small)
 
 add-stops : tie.Need-add-stops Inv-loop μ-loop
-add-stops c = omega (arith, c .before .before .before .before .before .loop .inv .4 _ (c .before .before .before .before .loop-test .taken), c .before .before .before .before .before .loop .inv .2 .small)
+add-stops c =
+    let loop-test-taken = c .before .before .before .before .loop-test .taken in
+    let loop-inv = c .before .before .before .before .before .loop .inv in
+    omega (arith, loop-inv .4 _ loop-test-taken, loop-inv .2 .small)
 
 mul-stops-3 : tie.Need-mul-stops-3 Inv-loop μ-loop
-mul-stops-3 c = omega (arith, spot-small _ _ _ _ (c .before .before .before .before .before .loop .inv .2) (c .before .before .before .before .loop-test .taken) (c .before .before .wide .ensures .0))
+mul-stops-3 c =
+    let loop-test-taken = c .before .before .before .before .loop-test .taken in
+    let loop-inv = c .before .before .before .before .before .loop .inv in
+    omega (arith, spot-small _ _ _ _ (loop-inv .2) loop-test-taken (c .before .before .wide .ensures .0))
 
 element-write-stops : tie.Need-element-write-stops Inv-loop μ-loop
-element-write-stops c = omega (arith, spot-small _ _ _ _ (c .before .before .before .before .before .loop .inv .2) (c .before .before .before .before .loop-test .taken) (c .before .before .wide .ensures .0))
+element-write-stops c =
+    let loop-test-taken = c .before .before .before .before .loop-test .taken in
+    let loop-inv = c .before .before .before .before .before .loop .inv in
+    omega (arith, spot-small _ _ _ _ (loop-inv .2) loop-test-taken (c .before .before .wide .ensures .0))
 
 add-v : tie.Need-add-v Inv-loop μ-loop
 add-v c = omega arith
@@ -59,8 +76,14 @@ loop-less c = omega arith
 
 loop-again : tie.Need-loop-again Inv-loop μ-loop
 loop-again c =
-    let h = c .before .before .before .before .before .loop .inv in
-    (omega arith, omega arith, h .2, laid-more _ _ _ _ _ _ _ _ (h .2) (h .0) (c .before .before .before .before .loop-test .taken) (c .before .before .wide .ensures .0) (refl) (h .3), h .4)
+    let loop-test-taken = c .before .before .before .before .loop-test .taken in
+    let h = c .before .before .before .before .before .loop .inv in (
+      omega arith,
+      omega arith,
+      h .2,
+      laid-more _ _ _ _ _ _ _ _ (h .2) (h .0) loop-test-taken (c .before .before .wide .ensures .0) (refl) (h .3),
+      h .4,
+    )
 
 returns : tie.Need-returns Inv-loop μ-loop
 returns c =

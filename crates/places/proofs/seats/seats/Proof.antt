@@ -1,4 +1,5 @@
--- `places::seats` meets its contract. The invariant: the first i nodes of the walk have their spots (`Seating`). The measure is what is left of the walk.
+-- `places::seats` meets its contract. The invariant: the first i nodes of the walk have their spots (`Seating`). The
+-- measure is what is left of the walk.
 use Prim.Native.Nat.{_-_, _≤_, _<_}
 use mathlib.Core.Path.{_≡_}
 use native.Mathlib.Omega.{arith}
@@ -12,7 +13,12 @@ use Rattle.places.proofs.seats.seats.Statement.{statement}
 use Rattle.places.proofs.seats.seats.Tie as tie
 
 abbrev Inv-loop : tie.InvT-loop
-Inv-loop parent order place head size n spot₀ next₀ i₀ spot next i = (0 < i) × (i ≤ n) × Grown n parent order place × SizesAll n parent size × Seating n parent place head size i spot next
+Inv-loop parent order place head size n spot₀ next₀ i₀ spot next i =
+    (0 < i)
+    × (i ≤ n)
+    × Grown n parent order place
+    × SizesAll n parent size
+    × Seating n parent place head size i spot next
 
 abbrev μ-loop : tie.MeasureT-loop
 μ-loop parent order place head size n spot₀ next₀ i₀ spot next i = n - i
@@ -25,8 +31,14 @@ fill-requires-2 c κs = search needs
 
 loop-holds : tie.Need-loop-holds Inv-loop μ-loop
 loop-holds c =
-    let g = c .before .before .before .before .pre .0 in
-    (omega arith, omega (arith, g .some), g, c .before .before .before .before .pre .1, seating-one g _ (c .before .before .before .before .pre .1) _ _ (c .before .before .fill .ensures) (c .fill2 .ensures))
+    let pre = c .before .before .before .before .pre in
+    let g = pre .0 in (
+      omega arith,
+      omega (arith, g .some),
+      g,
+      pre .1,
+      seating-one g _ (pre .1) _ _ (c .before .before .fill .ensures) (c .fill2 .ensures),
+    )
 
 mul-wide : tie.Need-mul-wide Inv-loop μ-loop
 mul-wide c = omega (arith, c .before .loop .inv .2 .some)
@@ -38,10 +50,14 @@ wide-requires : tie.Need-wide-requires Inv-loop μ-loop
 wide-requires c κs = search needs
 
 mul-wide-2 : tie.Need-mul-wide-2 Inv-loop μ-loop
-mul-wide-2 c = omega (arith, read-node (c .before .before .before .loop .inv .2) _ _ (c .before .before .loop-test .taken) (c .wide .ensures .0))
+mul-wide-2 c =
+    let loop-inv = c .before .before .before .loop .inv in
+    omega (arith, read-node (loop-inv .2) _ _ (c .before .before .loop-test .taken) (c .wide .ensures .0))
 
 element-copy-out-wide-2 : tie.Need-element-copy-out-wide-2 Inv-loop μ-loop
-element-copy-out-wide-2 c = read-node (c .before .before .before .loop .inv .2) _ _ (c .before .before .loop-test .taken) (c .wide .ensures .0)
+element-copy-out-wide-2 c =
+    let loop-inv = c .before .before .before .loop .inv in
+    read-node (loop-inv .2) _ _ (c .before .before .loop-test .taken) (c .wide .ensures .0)
 
 wide-requires-2 : tie.Need-wide-requires-2 Inv-loop μ-loop
 wide-requires-2 c κs = search needs
@@ -51,31 +67,66 @@ seat-of-requires c κs =
     let h = c .before .before .before .before .before .before .before .loop .inv in
     let l = c .before .before .before .before .before .before .loop-test .taken in
     let ev = c .before .before .before .before .wide .ensures .0 in
-    let ep = c .before .before .wide2 .ensures .0 in
-    ((read-parent (h .2) _ _ _ (h .0) l ev ep, read-node (h .2) _ _ l ev), seat-room (h .2) _ (h .3) _ _ _ _ _ (h .0) l ev ep (h .4))
+    let ep = c .before .before .wide2 .ensures .0 in (
+      (read-parent (h .2) _ _ _ (h .0) l ev ep, read-node (h .2) _ _ l ev),
+      seat-room (h .2) _ (h .3) _ _ _ _ _ (h .0) l ev ep (h .4),
+    )
 
 mul-spot : tie.Need-mul-spot Inv-loop μ-loop
-mul-spot c = omega (arith, read-node (c .before .before .before .before .before .before .before .before .loop .inv .2) _ _ (c .before .before .before .before .before .before .before .loop-test .taken) (c .before .before .before .before .before .wide .ensures .0))
+mul-spot c =
+    let wide-ensures = c .before .before .before .before .before .wide .ensures in
+    let loop-test-taken = c .before .before .before .before .before .before .before .loop-test .taken in
+    let loop-inv = c .before .before .before .before .before .before .before .before .loop .inv in
+    omega (arith, read-node (loop-inv .2) _ _ loop-test-taken (wide-ensures .0))
 
 element-write-spot : tie.Need-element-write-spot Inv-loop μ-loop
-element-write-spot c = omega (arith, read-node (c .before .before .before .before .before .before .before .before .loop .inv .2) _ _ (c .before .before .before .before .before .before .before .loop-test .taken) (c .before .before .before .before .before .wide .ensures .0))
+element-write-spot c =
+    let wide-ensures = c .before .before .before .before .before .wide .ensures in
+    let loop-test-taken = c .before .before .before .before .before .before .before .loop-test .taken in
+    let loop-inv = c .before .before .before .before .before .before .before .before .loop .inv in
+    omega (arith, read-node (loop-inv .2) _ _ loop-test-taken (wide-ensures .0))
 
 mul-next : tie.Need-mul-next Inv-loop μ-loop
-mul-next c = omega (arith, read-parent (c .before .before .before .before .before .before .before .before .loop .inv .2) _ _ _ (c .before .before .before .before .before .before .before .before .loop .inv .0) (c .before .before .before .before .before .before .before .loop-test .taken) (c .before .before .before .before .before .wide .ensures .0) (c .before .before .before .wide2 .ensures .0))
+mul-next c =
+    let wide2-ensures = c .before .before .before .wide2 .ensures in
+    let wide-ensures = c .before .before .before .before .before .wide .ensures in
+    let loop-test-taken = c .before .before .before .before .before .before .before .loop-test .taken in
+    let loop-inv = c .before .before .before .before .before .before .before .before .loop .inv in
+    omega (arith, read-parent (loop-inv .2) _ _ _ (loop-inv .0) loop-test-taken (wide-ensures .0) (wide2-ensures .0))
 
 element-write-next : tie.Need-element-write-next Inv-loop μ-loop
-element-write-next c = omega (arith, read-parent (c .before .before .before .before .before .before .before .before .loop .inv .2) _ _ _ (c .before .before .before .before .before .before .before .before .loop .inv .0) (c .before .before .before .before .before .before .before .loop-test .taken) (c .before .before .before .before .before .wide .ensures .0) (c .before .before .before .wide2 .ensures .0))
+element-write-next c =
+    let wide2-ensures = c .before .before .before .wide2 .ensures in
+    let wide-ensures = c .before .before .before .before .before .wide .ensures in
+    let loop-test-taken = c .before .before .before .before .before .before .before .loop-test .taken in
+    let loop-inv = c .before .before .before .before .before .before .before .before .loop .inv in
+    omega (arith, read-parent (loop-inv .2) _ _ _ (loop-inv .0) loop-test-taken (wide-ensures .0) (wide2-ensures .0))
 
 add-next : tie.Need-add-next Inv-loop μ-loop
 add-next c =
+    let wide2-ensures = c .before .before .before .wide2 .ensures in
+    let wide-ensures = c .before .before .before .before .before .wide .ensures in
+    let loop-test-taken = c .before .before .before .before .before .before .before .loop-test .taken in
     let h = c .before .before .before .before .before .before .before .before .loop .inv in
-    omega (arith, seat-fits (h .2) _ (h .3) _ _ _ _ _ (h .0) (c .before .before .before .before .before .before .before .loop-test .taken) (c .before .before .before .before .before .wide .ensures .0) (c .before .before .before .wide2 .ensures .0) (h .4) _ _ (c .seat-of .ensures))
+    omega (
+      arith,
+      seat-fits (h .2) _ (h .3) _ _ _ _ _ (h .0) loop-test-taken (wide-ensures .0) (wide2-ensures .0) (h .4) _ _
+          (c .seat-of .ensures),
+    )
 
 mul-next-2 : tie.Need-mul-next-2 Inv-loop μ-loop
-mul-next-2 c = omega (arith, read-node (c .before .before .before .before .before .before .before .before .loop .inv .2) _ _ (c .before .before .before .before .before .before .before .loop-test .taken) (c .before .before .before .before .before .wide .ensures .0))
+mul-next-2 c =
+    let wide-ensures = c .before .before .before .before .before .wide .ensures in
+    let loop-test-taken = c .before .before .before .before .before .before .before .loop-test .taken in
+    let loop-inv = c .before .before .before .before .before .before .before .before .loop .inv in
+    omega (arith, read-node (loop-inv .2) _ _ loop-test-taken (wide-ensures .0))
 
 element-write-next-2 : tie.Need-element-write-next-2 Inv-loop μ-loop
-element-write-next-2 c = omega (arith, read-node (c .before .before .before .before .before .before .before .before .loop .inv .2) _ _ (c .before .before .before .before .before .before .before .loop-test .taken) (c .before .before .before .before .before .wide .ensures .0))
+element-write-next-2 c =
+    let wide-ensures = c .before .before .before .before .before .wide .ensures in
+    let loop-test-taken = c .before .before .before .before .before .before .before .loop-test .taken in
+    let loop-inv = c .before .before .before .before .before .before .before .before .loop .inv in
+    omega (arith, read-node (loop-inv .2) _ _ loop-test-taken (wide-ensures .0))
 
 add-i : tie.Need-add-i Inv-loop μ-loop
 add-i c = omega arith
@@ -85,8 +136,17 @@ loop-less c = omega arith
 
 loop-again : tie.Need-loop-again Inv-loop μ-loop
 loop-again c =
-    let h = c .before .before .before .before .before .before .before .before .loop .inv in
-    (omega arith, omega arith, h .2, h .3, seating-next (h .2) _ (h .3) _ _ _ _ _ (h .0) (c .before .before .before .before .before .before .before .loop-test .taken) (c .before .before .before .before .before .wide .ensures .0) (c .before .before .before .wide2 .ensures .0) (h .4) _ _ (c .seat-of .ensures))
+    let wide2-ensures = c .before .before .before .wide2 .ensures in
+    let wide-ensures = c .before .before .before .before .before .wide .ensures in
+    let loop-test-taken = c .before .before .before .before .before .before .before .loop-test .taken in
+    let h = c .before .before .before .before .before .before .before .before .loop .inv in (
+      omega arith,
+      omega arith,
+      h .2,
+      h .3,
+      seating-next (h .2) _ (h .3) _ _ _ _ _ (h .0) loop-test-taken (wide-ensures .0) (wide2-ensures .0) (h .4) _ _
+          (c .seat-of .ensures),
+    )
 
 returns : tie.Need-returns Inv-loop μ-loop
 returns c =
