@@ -1,7 +1,8 @@
 -- `table::row_part` meets its contract. Where the row stands, its 12 bytes are the part from 12 + 12 r on, which lies
--- that far into the table; else the part is empty and lies where the table does.
+-- that far into the table and within it (`row-stands`); else the part is empty and lies where the table does.
 use Prim.Native.Nat.{_*_, _+_, _-_}
 use mathlib.Core.Path.{_≡_, refl}
+use Rattle.table.specs.Row.{Stands}
 use native.Mathlib.Omega.{arith}
 use borrow.Author.Needs.{needs}
 use Rattle.table.proofs.row_part.Statement.{statement}
@@ -10,14 +11,17 @@ use Rattle.table.proofs.row_part.Tie as tie
 stands-requires : tie.Need-stands-requires
 stands-requires c κs = search needs
 
+row-stands : (c : tie.Then1) → Stands (c .before .before .before .args .s .now) (c .before .before .before .args .row)
+row-stands c = c .before .stands .ensures .there (c .if1 .taken)
+
 mul-a : tie.Need-mul-a
-mul-a c = omega (arith, c .before .stands .ensures .there (c .if1 .taken))
+mul-a c = omega (arith, row-stands c)
 
 add-a : tie.Need-add-a
-add-a c = omega (arith, c .before .stands .ensures .there (c .if1 .taken))
+add-a c = omega (arith, row-stands c)
 
 add-e : tie.Need-add-e
-add-e c = omega (arith, c .before .stands .ensures .there (c .if1 .taken))
+add-e c = omega (arith, row-stands c)
 
 sub-result : tie.Need-sub-result
 sub-result c = search needs
@@ -26,13 +30,13 @@ part-result-start : tie.Need-part-result-start
 part-result-start c = search needs
 
 part-result-end : tie.Need-part-result-end
-part-result-end c = omega (arith, c .before .stands .ensures .there (c .if1 .taken))
+part-result-end c = omega (arith, row-stands c)
 
 returns : tie.Need-returns
 returns c =
     let args = c .before .before .before .before .args in
     let e : 12 + 12 * args .row + 12 - (12 + 12 * args .row) ≡ 12 = omega arith in
-    let h = c .before .before .stands .ensures .there (c .before .if1 .taken) in
+    let h = row-stands (c .before) in
     record { bytes = λ _. rw e refl; own = λ _. refl; none = λ n. absurd (n h); none-at = λ n. absurd (n h) }
 
 sub-result-2 : tie.Need-sub-result-2
