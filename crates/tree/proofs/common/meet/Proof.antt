@@ -1,5 +1,6 @@
 -- `tree::meet` meets its contract. The loop's invariant: both climbs stand above their nodes, and whatever is above
--- both nodes is above both places. The measure is the sum of the two places.
+-- both nodes is above both places. The measure is the sum of the two places. Both climbs stand at nodes
+-- (`a-in`, `b-in`), so what is read at them is there.
 use Rattle.arrays.specs.Filled.{at}
 use Rattle.tree.proofs.Meeting.{
   Meeting,
@@ -10,7 +11,7 @@ use Rattle.tree.proofs.Meeting.{
   later-low,
   apart-later,
 }
-use Prim.Native.Nat.{_+_, _-_}
+use Prim.Native.Nat.{_+_, _-_, _<_}
 use mathlib.Core.Path.{ap}
 use native.Mathlib.Omega.{arith}
 use borrow.Author.Needs.{needs}
@@ -27,35 +28,35 @@ abbrev μ-loop : tie.MeasureT-loop
 loop-holds : tie.Need-loop-holds Inv-loop μ-loop
 loop-holds c = meeting-start _ (c .pre .1) (c .pre .2)
 
+a-in : (c : tie.At-loop Inv-loop μ-loop) → c .loop .a < 4096
+a-in c = omega (arith, c .loop .inv .fits-a, c .before .pre .0 .few)
+
+b-in : (c : tie.At-loop Inv-loop μ-loop) → c .loop .b < 4096
+b-in c = omega (arith, c .loop .inv .fits-b, c .before .pre .0 .few)
+
 -- src/common.rt:13:12
 mul-if1 : tie.Need-mul-if1 Inv-loop μ-loop
-mul-if1 c = omega (arith, c .before .loop .inv .fits-a, c .before .before .pre .0 .few)
+mul-if1 c = omega (arith, a-in (c .before))
 
 -- src/common.rt:13:12
 element-copy-out-if1 : tie.Need-element-copy-out-if1 Inv-loop μ-loop
-element-copy-out-if1 c = omega (arith, c .before .loop .inv .fits-a, c .before .before .pre .0 .few)
+element-copy-out-if1 c = omega (arith, a-in (c .before))
 
 -- src/common.rt:13:23
 mul-if1-2 : tie.Need-mul-if1-2 Inv-loop μ-loop
-mul-if1-2 c = omega (arith, c .before .before .loop .inv .fits-b, c .before .before .before .pre .0 .few)
+mul-if1-2 c = omega (arith, b-in (c .before .before))
 
 -- src/common.rt:13:23
 element-copy-out-if1-2 : tie.Need-element-copy-out-if1-2 Inv-loop μ-loop
-element-copy-out-if1-2 c = omega (arith, c .before .before .loop .inv .fits-b, c .before .before .before .pre .0 .few)
+element-copy-out-if1-2 c = omega (arith, b-in (c .before .before))
 
 -- src/common.rt:14:30
 mul-wide : tie.Need-mul-wide Inv-loop μ-loop
-mul-wide c =
-    let loop-inv = c .before .before .before .before .loop .inv in
-    let pre = c .before .before .before .before .before .pre in
-    omega (arith, loop-inv .fits-b, pre .0 .few)
+mul-wide c = omega (arith, b-in (c .before .before .before .before))
 
 -- src/common.rt:14:30
 element-copy-out-wide : tie.Need-element-copy-out-wide Inv-loop μ-loop
-element-copy-out-wide c =
-    let loop-inv = c .before .before .before .before .loop .inv in
-    let pre = c .before .before .before .before .before .pre in
-    omega (arith, loop-inv .fits-b, pre .0 .few)
+element-copy-out-wide c = omega (arith, b-in (c .before .before .before .before))
 
 -- src/common.rt:14:13
 wide-requires : tie.Need-wide-requires Inv-loop μ-loop
@@ -79,17 +80,11 @@ loop-again c =
 
 -- src/common.rt:16:30
 mul-wide-2 : tie.Need-mul-wide-2 Inv-loop μ-loop
-mul-wide-2 c =
-    let loop-inv = c .before .before .before .before .loop .inv in
-    let pre = c .before .before .before .before .before .pre in
-    omega (arith, loop-inv .fits-a, pre .0 .few)
+mul-wide-2 c = omega (arith, a-in (c .before .before .before .before))
 
 -- src/common.rt:16:30
 element-copy-out-wide-2 : tie.Need-element-copy-out-wide-2 Inv-loop μ-loop
-element-copy-out-wide-2 c =
-    let loop-inv = c .before .before .before .before .loop .inv in
-    let pre = c .before .before .before .before .before .pre in
-    omega (arith, loop-inv .fits-a, pre .0 .few)
+element-copy-out-wide-2 c = omega (arith, a-in (c .before .before .before .before))
 
 -- src/common.rt:16:13
 wide-requires-2 : tie.Need-wide-requires-2 Inv-loop μ-loop

@@ -1,4 +1,5 @@
--- `chains` meets its contract: the half-branches below h are chained.
+-- `chains` meets its contract: the half-branches below h are chained. The node that h leaves is below 4,096
+-- (`node-in`), since the rows join such nodes.
 use Prim.Native.Nat.{_*_, _-_, _<_}
 use mathlib.Core.Path.{_≡_, refl}
 use native.Mathlib.Omega.{arith}
@@ -34,14 +35,14 @@ loop-holds c =
 leaves-requires : tie.Need-leaves-requires Inv-loop μ-loop
 leaves-requires c κs = c .before .loop .inv .1 .stands _ (omega arith)
 
+node-in : (c : tie.After-leaves Inv-loop μ-loop) → c .leaves .result < 4096
+node-in c = rw (c .leaves .ensures) (from-fits _ _ _ (c .before .before .loop .inv .1 .fit) (omega arith))
+
 mul-next : tie.Need-mul-next Inv-loop μ-loop
-mul-next c =
-    let b : c .leaves .result < 4096 = rw (c .leaves .ensures)
-    (from-fits _ _ _ (c .before .before .loop .inv .1 .fit) (omega arith)) in
-    omega arith
+mul-next c = omega (arith, node-in c)
 
 element-copy-out-next : tie.Need-element-copy-out-next Inv-loop μ-loop
-element-copy-out-next c = rw (c .leaves .ensures) (from-fits _ _ _ (c .before .before .loop .inv .1 .fit) (omega arith))
+element-copy-out-next c = node-in c
 
 mul-next-2 : tie.Need-mul-next-2 Inv-loop μ-loop
 mul-next-2 c = omega arith
@@ -56,18 +57,10 @@ cast-first : tie.Need-cast-first Inv-loop μ-loop
 cast-first c = omega arith
 
 mul-first : tie.Need-mul-first Inv-loop μ-loop
-mul-first c =
-    let loop-inv = c .before .before .before .loop .inv in
-    let b : c .before .leaves .result < 4096 = rw (c .before .leaves .ensures)
-    (from-fits _ _ _ (loop-inv .1 .fit) (omega arith)) in
-    omega arith
+mul-first c = omega (arith, node-in (c .before))
 
 element-write-first : tie.Need-element-write-first Inv-loop μ-loop
-element-write-first c =
-    let loop-inv = c .before .before .before .loop .inv in
-    let b : c .before .leaves .result < 4096 = rw (c .before .leaves .ensures)
-    (from-fits _ _ _ (loop-inv .1 .fit) (omega arith)) in
-    omega arith
+element-write-first c = omega (arith, node-in (c .before))
 
 add-h : tie.Need-add-h Inv-loop μ-loop
 add-h c = omega arith

@@ -1,5 +1,5 @@
 -- `reach` meets its contract: the places before head are done, and where head meets tail all nodes joined to the start
--- are in the order.
+-- are in the order. The start is a node (`start-in`).
 use Prim.Native.Nat.{_*_, _-_, _<_}
 use native.Mathlib.Omega.{arith}
 use Rattle.tree.specs.Net.{firstEnd, secondEnd}
@@ -31,19 +31,21 @@ fill-requires-3 c κs = tt
 fill-requires-4 : tie.Need-fill-requires-4 Inv-loop μ-loop
 fill-requires-4 c κs = tt
 
+start-in : (c : tie.After-fill4 Inv-loop μ-loop)
+    → c .before .before .before .before .before .before .before .before .before .args .start < 4096
+start-in c = c .before .before .before .before .before .before .before .before .before .pre .0
+
 cast-parent : tie.Need-cast-parent Inv-loop μ-loop
-cast-parent c = omega (arith, c .before .before .before .before .before .before .before .before .before .pre .0)
+cast-parent c = omega (arith, start-in c)
 
 element-write-parent : tie.Need-element-write-parent Inv-loop μ-loop
-element-write-parent c =
-    let pre = c .before .before .before .before .before .before .before .before .before .pre in
-    omega (arith, pre .0)
+element-write-parent c = omega (arith, start-in c)
 
 mul-parent : tie.Need-mul-parent Inv-loop μ-loop
-mul-parent c = omega (arith, c .before .before .before .before .before .before .before .before .before .pre .0)
+mul-parent c = omega (arith, start-in c)
 
 cast-order : tie.Need-cast-order Inv-loop μ-loop
-cast-order c = omega (arith, c .before .before .before .before .before .before .before .before .before .pre .0)
+cast-order c = omega (arith, start-in c)
 
 element-write-order : tie.Need-element-write-order Inv-loop μ-loop
 element-write-order c = omega arith

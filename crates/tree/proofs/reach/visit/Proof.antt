@@ -1,5 +1,6 @@
--- `visit` meets its contract: of the half-branches that leave the node at the head, those from x on are done.
-use Prim.Native.Nat.{_-_}
+-- `visit` meets its contract: of the half-branches that leave the node at the head, those from x on are done. The node
+-- that one leads to has a place in each array (`node-in`), since the rows join nodes below 4,096.
+use Prim.Native.Nat.{_-_, _<_}
 use mathlib.Core.Logic.{⊎-elim}
 use native.Mathlib.Omega.{arith}
 use Rattle.arrays.specs.Filled.{at}
@@ -51,79 +52,38 @@ sub-h c = omega arith
 leads-requires : tie.Need-leads-requires Inv-loop μ-loop
 leads-requires c κs = let g = c .before .loop .inv in g .1 .stands _ (omega (arith, g .0 .low))
 
-mul-if1 : tie.Need-mul-if1 Inv-loop μ-loop
-mul-if1 c =
+node-in : (c : tie.After-leads Inv-loop μ-loop) → c .leads .result < 4096
+node-in c =
     let loop-inv = c .before .before .loop .inv in
-    omega (
-      arith,
-      leads-place _ _ _ _ _ _ _ _ _ _ _ _ _ (loop-inv .0) (c .before .loop-test .taken) (loop-inv .1 .fit)
-          (c .leads .ensures),
-    )
+    leads-place _ _ _ _ _ _ _ _ _ _ _ _ _ (loop-inv .0) (c .before .loop-test .taken) (loop-inv .1 .fit)
+    (c .leads .ensures)
+
+mul-if1 : tie.Need-mul-if1 Inv-loop μ-loop
+mul-if1 c = omega (arith, node-in c)
 
 element-copy-out-if1 : tie.Need-element-copy-out-if1 Inv-loop μ-loop
-element-copy-out-if1 c =
-    let loop-inv = c .before .before .loop .inv in
-    omega (
-      arith,
-      leads-place _ _ _ _ _ _ _ _ _ _ _ _ _ (loop-inv .0) (c .before .loop-test .taken) (loop-inv .1 .fit)
-          (c .leads .ensures),
-    )
+element-copy-out-if1 c = omega (arith, node-in c)
 
 cast-parent : tie.Need-cast-parent Inv-loop μ-loop
 cast-parent c = omega arith
 
 mul-parent : tie.Need-mul-parent Inv-loop μ-loop
-mul-parent c =
-    let loop-test-taken = c .before .before .before .loop-test .taken in
-    let loop-inv = c .before .before .before .before .loop .inv in
-    omega (
-      arith,
-      leads-place _ _ _ _ _ _ _ _ _ _ _ _ _ (loop-inv .0) loop-test-taken (loop-inv .1 .fit)
-          (c .before .before .leads .ensures),
-    )
+mul-parent c = omega (arith, node-in (c .before .before))
 
 element-write-parent : tie.Need-element-write-parent Inv-loop μ-loop
-element-write-parent c =
-    let loop-test-taken = c .before .before .before .loop-test .taken in
-    let loop-inv = c .before .before .before .before .loop .inv in
-    omega (
-      arith,
-      leads-place _ _ _ _ _ _ _ _ _ _ _ _ _ (loop-inv .0) loop-test-taken (loop-inv .1 .fit)
-          (c .before .before .leads .ensures),
-    )
+element-write-parent c = omega (arith, node-in (c .before .before))
 
 cast-half : tie.Need-cast-half Inv-loop μ-loop
 cast-half c = omega arith
 
 mul-half : tie.Need-mul-half Inv-loop μ-loop
-mul-half c =
-    let loop-test-taken = c .before .before .before .loop-test .taken in
-    let loop-inv = c .before .before .before .before .loop .inv in
-    omega (
-      arith,
-      leads-place _ _ _ _ _ _ _ _ _ _ _ _ _ (loop-inv .0) loop-test-taken (loop-inv .1 .fit)
-          (c .before .before .leads .ensures),
-    )
+mul-half c = omega (arith, node-in (c .before .before))
 
 element-write-half : tie.Need-element-write-half Inv-loop μ-loop
-element-write-half c =
-    let loop-test-taken = c .before .before .before .loop-test .taken in
-    let loop-inv = c .before .before .before .before .loop .inv in
-    omega (
-      arith,
-      leads-place _ _ _ _ _ _ _ _ _ _ _ _ _ (loop-inv .0) loop-test-taken (loop-inv .1 .fit)
-          (c .before .before .leads .ensures),
-    )
+element-write-half c = omega (arith, node-in (c .before .before))
 
 cast-order : tie.Need-cast-order Inv-loop μ-loop
-cast-order c =
-    let loop-test-taken = c .before .before .before .loop-test .taken in
-    let loop-inv = c .before .before .before .before .loop .inv in
-    omega (
-      arith,
-      leads-place _ _ _ _ _ _ _ _ _ _ _ _ _ (loop-inv .0) loop-test-taken (loop-inv .1 .fit)
-          (c .before .before .leads .ensures),
-    )
+cast-order c = omega (arith, node-in (c .before .before))
 
 mul-order : tie.Need-mul-order Inv-loop μ-loop
 mul-order c = omega arith
@@ -133,32 +93,17 @@ element-write-order c =
     let leads-ensures = c .before .before .leads .ensures in
     let loop-test-taken = c .before .before .before .loop-test .taken in
     let loop-inv = c .before .before .before .before .loop .inv in
-    going-room _ _ _ _ _ _ _ _ _ _ _ _ _ (loop-inv .0) loop-test-taken _ leads-ensures
-    (leads-place _ _ _ _ _ _ _ _ _ _ _ _ _ (loop-inv .0) loop-test-taken (loop-inv .1 .fit) leads-ensures)
+    going-room _ _ _ _ _ _ _ _ _ _ _ _ _ (loop-inv .0) loop-test-taken _ leads-ensures (node-in (c .before .before))
     (c .if1 .taken)
 
 cast-place : tie.Need-cast-place Inv-loop μ-loop
 cast-place c = omega arith
 
 mul-place : tie.Need-mul-place Inv-loop μ-loop
-mul-place c =
-    let loop-test-taken = c .before .before .before .loop-test .taken in
-    let loop-inv = c .before .before .before .before .loop .inv in
-    omega (
-      arith,
-      leads-place _ _ _ _ _ _ _ _ _ _ _ _ _ (loop-inv .0) loop-test-taken (loop-inv .1 .fit)
-          (c .before .before .leads .ensures),
-    )
+mul-place c = omega (arith, node-in (c .before .before))
 
 element-write-place : tie.Need-element-write-place Inv-loop μ-loop
-element-write-place c =
-    let loop-test-taken = c .before .before .before .loop-test .taken in
-    let loop-inv = c .before .before .before .before .loop .inv in
-    omega (
-      arith,
-      leads-place _ _ _ _ _ _ _ _ _ _ _ _ _ (loop-inv .0) loop-test-taken (loop-inv .1 .fit)
-          (c .before .before .leads .ensures),
-    )
+element-write-place c = omega (arith, node-in (c .before .before))
 
 add-m : tie.Need-add-m Inv-loop μ-loop
 add-m c = omega arith
@@ -187,8 +132,8 @@ loop-again c =
     let e = c .before .before .before .before .leads .ensures in (
       ⊎-elim
           (λ w. rw (w .1, w .2, w .3, w .4, w .5)
-          (going-push _ _ _ _ _ _ _ _ _ _ _ _ _ g z _ _ e
-          (leads-place _ _ _ _ _ _ _ _ _ _ _ _ _ g z (loop-inv .1 .fit) e) (w .0 .taken) (c .wide3 .ensures .0)))
+          (going-push _ _ _ _ _ _ _ _ _ _ _ _ _ g z _ _ e (node-in (c .before .before .before .before)) (w .0 .taken)
+          (c .wide3 .ensures .0)))
           (λ w. rw (w .1, w .2, w .3, w .4, w .5)
           (going-keep _ _ _ _ _ _ _ _ _ _ _ _ _ g z _ _ e (w .0 .left) (c .wide3 .ensures .0)))
           (c .before .before .if1 .came),
