@@ -1,5 +1,6 @@
 -- `sizes_of` meets its contract. The places from i on have given their nodes to their parents; at the end the root
--- alone has not.
+-- alone has not. The node at place i - 1 and its parent have a place in each array (`node-in`, `parent-in`), as the
+-- walk reaches no other.
 use Prim.Native.Nat.{_-_, _≤_, _<_}
 use native.Mathlib.Omega.{arith}
 use borrow.Author.Needs.{needs}
@@ -35,32 +36,33 @@ element-copy-out-wide c = omega arith
 wide-requires : tie.Need-wide-requires Inv-loop μ-loop
 wide-requires c κs = search needs
 
-mul-wide-2 : tie.Need-mul-wide-2 Inv-loop μ-loop
-mul-wide-2 c =
+node-in : (c : tie.After-wide Inv-loop μ-loop) → c .wide .result < 4096
+node-in c =
     let loop-i = c .before .before .before .loop .i in
     let h = c .before .before .before .loop .inv in
-    omega (arith, read-node (h .1) (loop-i - 1) _ (omega arith) (c .wide .ensures .0))
+    read-node (h .1) (loop-i - 1) _ (omega arith) (c .wide .ensures .0)
+
+parent-in : (c : tie.After-wide2 Inv-loop μ-loop) → c .wide2 .result < 4096
+parent-in c =
+    let loop-i = c .before .before .before .before .before .loop .i in
+    let h = c .before .before .before .before .before .loop .inv in
+    read-parent (h .1) (loop-i - 1) _ _ (omega arith) (omega arith) (c .before .before .wide .ensures .0)
+    (c .wide2 .ensures .0)
+
+mul-wide-2 : tie.Need-mul-wide-2 Inv-loop μ-loop
+mul-wide-2 c = omega (arith, node-in c)
 
 element-copy-out-wide-2 : tie.Need-element-copy-out-wide-2 Inv-loop μ-loop
-element-copy-out-wide-2 c =
-    let loop-i = c .before .before .before .loop .i in
-    let h = c .before .before .before .loop .inv in
-    omega (arith, read-node (h .1) (loop-i - 1) _ (omega arith) (c .wide .ensures .0))
+element-copy-out-wide-2 c = omega (arith, node-in c)
 
 wide-requires-2 : tie.Need-wide-requires-2 Inv-loop μ-loop
 wide-requires-2 c κs = search needs
 
 mul-w : tie.Need-mul-w Inv-loop μ-loop
-mul-w c =
-    let loop-i = c .before .before .before .before .before .loop .i in
-    let h = c .before .before .before .before .before .loop .inv in
-    omega (arith, read-node (h .1) (loop-i - 1) _ (omega arith) (c .before .before .wide .ensures .0))
+mul-w c = omega (arith, node-in (c .before .before))
 
 element-copy-out-w : tie.Need-element-copy-out-w Inv-loop μ-loop
-element-copy-out-w c =
-    let loop-i = c .before .before .before .before .before .loop .i in
-    let h = c .before .before .before .before .before .loop .inv in
-    omega (arith, read-node (h .1) (loop-i - 1) _ (omega arith) (c .before .before .wide .ensures .0))
+element-copy-out-w c = omega (arith, node-in (c .before .before))
 
 add-w : tie.Need-add-w Inv-loop μ-loop
 add-w c =
@@ -74,24 +76,10 @@ add-w c =
     )
 
 mul-y : tie.Need-mul-y Inv-loop μ-loop
-mul-y c =
-    let wide-ensures = c .before .before .before .wide .ensures in
-    let loop-i = c .before .before .before .before .before .before .loop .i in
-    let h = c .before .before .before .before .before .before .loop .inv in
-    omega (
-      arith,
-      read-parent (h .1) (loop-i - 1) _ _ (omega arith) (omega arith) (wide-ensures .0) (c .before .wide2 .ensures .0),
-    )
+mul-y c = omega (arith, parent-in (c .before))
 
 element-copy-out-y : tie.Need-element-copy-out-y Inv-loop μ-loop
-element-copy-out-y c =
-    let wide-ensures = c .before .before .before .wide .ensures in
-    let loop-i = c .before .before .before .before .before .before .loop .i in
-    let h = c .before .before .before .before .before .before .loop .inv in
-    omega (
-      arith,
-      read-parent (h .1) (loop-i - 1) _ _ (omega arith) (omega arith) (wide-ensures .0) (c .before .wide2 .ensures .0),
-    )
+element-copy-out-y c = omega (arith, parent-in (c .before))
 
 add-y : tie.Need-add-y Inv-loop μ-loop
 add-y c =
@@ -105,40 +93,16 @@ add-y c =
     )
 
 mul-size : tie.Need-mul-size Inv-loop μ-loop
-mul-size c =
-    let wide-ensures = c .before .before .before .before .wide .ensures in
-    let loop-i = c .before .before .before .before .before .before .before .loop .i in
-    let h = c .before .before .before .before .before .before .before .loop .inv in
-    omega (arith, read-node (h .1) (loop-i - 1) _ (omega arith) (wide-ensures .0))
+mul-size c = omega (arith, node-in (c .before .before .before .before))
 
 element-write-size : tie.Need-element-write-size Inv-loop μ-loop
-element-write-size c =
-    let wide-ensures = c .before .before .before .before .wide .ensures in
-    let loop-i = c .before .before .before .before .before .before .before .loop .i in
-    let h = c .before .before .before .before .before .before .before .loop .inv in
-    omega (arith, read-node (h .1) (loop-i - 1) _ (omega arith) (wide-ensures .0))
+element-write-size c = omega (arith, node-in (c .before .before .before .before))
 
 mul-size-2 : tie.Need-mul-size-2 Inv-loop μ-loop
-mul-size-2 c =
-    let wide-ensures = c .before .before .before .before .wide .ensures in
-    let loop-i = c .before .before .before .before .before .before .before .loop .i in
-    let h = c .before .before .before .before .before .before .before .loop .inv in
-    omega (
-      arith,
-      read-parent (h .1) (loop-i - 1) _ _ (omega arith) (omega arith) (wide-ensures .0)
-          (c .before .before .wide2 .ensures .0),
-    )
+mul-size-2 c = omega (arith, parent-in (c .before .before))
 
 element-write-size-2 : tie.Need-element-write-size-2 Inv-loop μ-loop
-element-write-size-2 c =
-    let wide-ensures = c .before .before .before .before .wide .ensures in
-    let loop-i = c .before .before .before .before .before .before .before .loop .i in
-    let h = c .before .before .before .before .before .before .before .loop .inv in
-    omega (
-      arith,
-      read-parent (h .1) (loop-i - 1) _ _ (omega arith) (omega arith) (wide-ensures .0)
-          (c .before .before .wide2 .ensures .0),
-    )
+element-write-size-2 c = omega (arith, parent-in (c .before .before))
 
 loop-less : tie.Need-loop-less Inv-loop μ-loop
 loop-less c = omega arith

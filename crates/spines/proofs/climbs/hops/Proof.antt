@@ -1,5 +1,8 @@
--- `hops` meets its contract: the heads that the two climbs pass, and one more where they meet.
+-- `hops` meets its contract: the heads that the two climbs pass, and one more where they meet: few enough for 16 bits
+-- (`counted`).
+use Prim.Native.Nat.{_+_}
 use Rattle.tree.proofs.Meeting.{grown-hung}
+use Rattle.spines.specs.Parents.{HopsBy}
 use Rattle.spines.proofs.HopsCounted.{hops-counted}
 use native.Mathlib.Omega.{arith}
 use borrow.Author.Needs.{needs}
@@ -15,38 +18,26 @@ passed-heads-requires c κs = search needs
 passed-heads-requires-2 : tie.Need-passed-heads-requires-2
 passed-heads-requires-2 c κs = search needs
 
-add-result : tie.Need-add-result
-add-result c =
-    let p = c .before .before .before .pre in
-    omega (
-      arith,
-      hops-counted (p .0) (p .1) (p .2) (c .before .before .meet .ensures .0) (c .before .passed-heads .ensures)
-          (c .passed-heads2 .ensures) .few,
-    )
-
-add-result-2 : tie.Need-add-result-2
-add-result-2 c =
-    let p = c .before .before .before .pre in
-    omega (
-      arith,
-      hops-counted (p .0) (p .1) (p .2) (c .before .before .meet .ensures .0) (c .before .passed-heads .ensures)
-          (c .passed-heads2 .ensures) .few,
-    )
-
-cast-result : tie.Need-cast-result
-cast-result c =
-    let p = c .before .before .before .pre in
-    omega (
-      arith,
-      hops-counted (p .0) (p .1) (p .2) (c .before .before .meet .ensures .0) (c .before .passed-heads .ensures)
-          (c .passed-heads2 .ensures) .few,
-    )
-
-returns : tie.Need-returns
-returns c =
+counted : (c : tie.After-passed-heads2)
+    → HopsBy (c .before .before .before .args .n) (c .before .before .before .args .parent .now)
+    (c .before .before .before .args .place .now) (c .before .before .before .args .x)
+    (c .before .before .before .args .y) (1 + c .before .passed-heads .result + c .passed-heads2 .result)
+counted c =
     let p = c .before .before .before .pre in
     hops-counted (p .0) (p .1) (p .2) (c .before .before .meet .ensures .0) (c .before .passed-heads .ensures)
     (c .passed-heads2 .ensures)
+
+add-result : tie.Need-add-result
+add-result c = omega (arith, counted c .few)
+
+add-result-2 : tie.Need-add-result-2
+add-result-2 c = omega (arith, counted c .few)
+
+cast-result : tie.Need-cast-result
+cast-result c = omega (arith, counted c .few)
+
+returns : tie.Need-returns
+returns c = counted c
 
 pub hops-spec : {M : Type 1} → statement M
 hops-spec =

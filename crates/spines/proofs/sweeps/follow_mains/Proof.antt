@@ -1,4 +1,5 @@
--- `follow_mains` meets its contract. The nodes at the places below i have their heads.
+-- `follow_mains` meets its contract. The nodes at the places below i have their heads. The node at place i and its
+-- parent have a place in each array (`node-in`, `parent-in`), as the walk reaches no other.
 use Prim.Native.Nat.{_-_, _<_}
 use native.Mathlib.Omega.{arith}
 use borrow.Author.Needs.{needs}
@@ -37,88 +38,47 @@ element-copy-out-wide c = omega arith
 wide-requires : tie.Need-wide-requires Inv-loop μ-loop
 wide-requires c κs = search needs
 
+node-in : (c : tie.After-wide Inv-loop μ-loop) → c .wide .result < 4096
+node-in c =
+    let loop = c .before .before .before .loop in
+    read-node (loop .inv .1) (loop .i) _ (c .before .before .loop-test .taken) (c .wide .ensures .0)
+
+parent-in : (c : tie.After-wide2 Inv-loop μ-loop) → c .wide2 .result < 4096
+parent-in c =
+    let loop-test-taken = c .before .before .before .before .loop-test .taken in
+    let loop = c .before .before .before .before .before .loop in
+    read-parent (loop .inv .1) (loop .i) _ _ (omega arith) loop-test-taken (c .before .before .wide .ensures .0)
+    (c .wide2 .ensures .0)
+
 mul-wide-2 : tie.Need-mul-wide-2 Inv-loop μ-loop
-mul-wide-2 c =
-    let loop-i = c .before .before .before .loop .i in
-    let h = c .before .before .before .loop .inv in
-    omega (arith, read-node (h .1) loop-i _ (c .before .before .loop-test .taken) (c .wide .ensures .0))
+mul-wide-2 c = omega (arith, node-in c)
 
 element-copy-out-wide-2 : tie.Need-element-copy-out-wide-2 Inv-loop μ-loop
-element-copy-out-wide-2 c =
-    let loop-i = c .before .before .before .loop .i in
-    let h = c .before .before .before .loop .inv in
-    omega (arith, read-node (h .1) loop-i _ (c .before .before .loop-test .taken) (c .wide .ensures .0))
+element-copy-out-wide-2 c = omega (arith, node-in c)
 
 wide-requires-2 : tie.Need-wide-requires-2 Inv-loop μ-loop
 wide-requires-2 c κs = search needs
 
 mul-follow : tie.Need-mul-follow Inv-loop μ-loop
-mul-follow c =
-    let loop-test-taken = c .before .before .before .before .loop-test .taken in
-    let loop-i = c .before .before .before .before .before .loop .i in
-    let h = c .before .before .before .before .before .loop .inv in
-    omega (
-      arith,
-      read-parent (h .1) loop-i _ _ (omega arith) loop-test-taken (c .before .before .wide .ensures .0)
-          (c .wide2 .ensures .0),
-    )
+mul-follow c = omega (arith, parent-in c)
 
 element-copy-out-follow : tie.Need-element-copy-out-follow Inv-loop μ-loop
-element-copy-out-follow c =
-    let loop-test-taken = c .before .before .before .before .loop-test .taken in
-    let loop-i = c .before .before .before .before .before .loop .i in
-    let h = c .before .before .before .before .before .loop .inv in
-    omega (
-      arith,
-      read-parent (h .1) loop-i _ _ (omega arith) loop-test-taken (c .before .before .wide .ensures .0)
-          (c .wide2 .ensures .0),
-    )
+element-copy-out-follow c = omega (arith, parent-in c)
 
 mul-follow-2 : tie.Need-mul-follow-2 Inv-loop μ-loop
-mul-follow-2 c =
-    let wide-ensures = c .before .before .before .wide .ensures in
-    let loop-test-taken = c .before .before .before .before .before .loop-test .taken in
-    let loop-i = c .before .before .before .before .before .before .loop .i in
-    let h = c .before .before .before .before .before .before .loop .inv in
-    omega (
-      arith,
-      read-parent (h .1) loop-i _ _ (omega arith) loop-test-taken (wide-ensures .0) (c .before .wide2 .ensures .0),
-    )
+mul-follow-2 c = omega (arith, parent-in (c .before))
 
 element-copy-out-follow-2 : tie.Need-element-copy-out-follow-2 Inv-loop μ-loop
-element-copy-out-follow-2 c =
-    let wide-ensures = c .before .before .before .wide .ensures in
-    let loop-test-taken = c .before .before .before .before .before .loop-test .taken in
-    let loop-i = c .before .before .before .before .before .before .loop .i in
-    let h = c .before .before .before .before .before .before .loop .inv in
-    omega (
-      arith,
-      read-parent (h .1) loop-i _ _ (omega arith) loop-test-taken (wide-ensures .0) (c .before .wide2 .ensures .0),
-    )
+element-copy-out-follow-2 c = omega (arith, parent-in (c .before))
 
 follow-requires : tie.Need-follow-requires Inv-loop μ-loop
-follow-requires c κs =
-    let wide-ensures = c .before .before .before .before .wide .ensures in
-    let loop-test-taken = c .before .before .before .before .before .before .loop-test .taken in
-    let loop-i = c .before .before .before .before .before .before .before .loop .i in
-    let h = c .before .before .before .before .before .before .before .loop .inv in
-    omega (arith, read-node (h .1) loop-i _ loop-test-taken (wide-ensures .0))
+follow-requires c κs = omega (arith, node-in (c .before .before .before .before))
 
 mul-head : tie.Need-mul-head Inv-loop μ-loop
-mul-head c =
-    let wide-ensures = c .before .before .before .before .before .wide .ensures in
-    let loop-test-taken = c .before .before .before .before .before .before .before .loop-test .taken in
-    let loop-i = c .before .before .before .before .before .before .before .before .loop .i in
-    let h = c .before .before .before .before .before .before .before .before .loop .inv in
-    omega (arith, read-node (h .1) loop-i _ loop-test-taken (wide-ensures .0))
+mul-head c = omega (arith, node-in (c .before .before .before .before .before))
 
 element-write-head : tie.Need-element-write-head Inv-loop μ-loop
-element-write-head c =
-    let wide-ensures = c .before .before .before .before .before .wide .ensures in
-    let loop-test-taken = c .before .before .before .before .before .before .before .loop-test .taken in
-    let loop-i = c .before .before .before .before .before .before .before .before .loop .i in
-    let h = c .before .before .before .before .before .before .before .before .loop .inv in
-    omega (arith, read-node (h .1) loop-i _ loop-test-taken (wide-ensures .0))
+element-write-head c = omega (arith, node-in (c .before .before .before .before .before))
 
 add-i : tie.Need-add-i Inv-loop μ-loop
 add-i c = omega arith

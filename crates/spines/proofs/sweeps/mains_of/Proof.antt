@@ -1,4 +1,5 @@
--- `mains_of` meets its contract. Each node has the best of its children below c.
+-- `mains_of` meets its contract. Each node has the best of its children below c. The parent of node c is a node
+-- (`parent-in`).
 use Prim.Native.Nat.{_-_, _≤_, _<_}
 use native.Mathlib.Omega.{arith}
 use borrow.Author.Needs.{needs}
@@ -32,36 +33,31 @@ element-copy-out-wide c = omega arith
 wide-requires : tie.Need-wide-requires Inv-loop μ-loop
 wide-requires c κs = search needs
 
-mul-wide-2 : tie.Need-mul-wide-2 Inv-loop μ-loop
-mul-wide-2 c =
+parent-in : (c : tie.After-wide Inv-loop μ-loop)
+    → c .wide .result < c .before .before .before .before .before .before .args .n
+parent-in c =
     let h = c .before .before .before .loop .inv in
-    omega (
-      arith,
-      h .1 .some .1,
-      read-child (h .1) _ _ (h .2) (c .before .before .loop-test .taken) (c .wide .ensures .0),
-    )
+    read-child (h .1) _ _ (h .2) (c .before .before .loop-test .taken) (c .wide .ensures .0)
+
+parent-small : (c : tie.After-wide Inv-loop μ-loop) → c .wide .result < 4096
+parent-small c = omega (arith, c .before .before .before .loop .inv .3 .1, parent-in c)
+
+mul-wide-2 : tie.Need-mul-wide-2 Inv-loop μ-loop
+mul-wide-2 c = omega (arith, parent-small c)
 
 element-copy-out-wide-2 : tie.Need-element-copy-out-wide-2 Inv-loop μ-loop
-element-copy-out-wide-2 c =
-    let h = c .before .before .before .loop .inv in
-    omega (
-      arith,
-      h .1 .some .1,
-      read-child (h .1) _ _ (h .2) (c .before .before .loop-test .taken) (c .wide .ensures .0),
-    )
+element-copy-out-wide-2 c = omega (arith, parent-small c)
 
 wide-requires-2 : tie.Need-wide-requires-2 Inv-loop μ-loop
 wide-requires-2 c κs = search needs
 
 better-requires : tie.Need-better-requires Inv-loop μ-loop
 better-requires c κs =
-    let loop-test-taken = c .before .before .before .before .loop-test .taken in
     let h = c .before .before .before .before .before .loop .inv in (
       omega (
         arith,
         c .wide2 .ensures .0,
-        best-small _ (h .3 .1) (h .3 .0)
-            (read-child (h .1) _ _ (h .2) loop-test-taken (c .before .before .wide .ensures .0)) (h .0),
+        best-small _ (h .3 .1) (h .3 .0) (parent-in (c .before .before)) (h .0),
       ),
       omega (arith, h .3 .1),
     )
@@ -70,18 +66,10 @@ cast-main : tie.Need-cast-main Inv-loop μ-loop
 cast-main c = omega (arith, c .better .ensures .small)
 
 mul-main : tie.Need-mul-main Inv-loop μ-loop
-mul-main c =
-    let wide-ensures = c .before .before .before .wide .ensures in
-    let loop-test-taken = c .before .before .before .before .before .loop-test .taken in
-    let h = c .before .before .before .before .before .before .loop .inv in
-    omega (arith, h .1 .some .1, read-child (h .1) _ _ (h .2) loop-test-taken (wide-ensures .0))
+mul-main c = omega (arith, parent-small (c .before .before .before))
 
 element-write-main : tie.Need-element-write-main Inv-loop μ-loop
-element-write-main c =
-    let wide-ensures = c .before .before .before .wide .ensures in
-    let loop-test-taken = c .before .before .before .before .before .loop-test .taken in
-    let h = c .before .before .before .before .before .before .loop .inv in
-    omega (arith, h .1 .some .1, read-child (h .1) _ _ (h .2) loop-test-taken (wide-ensures .0))
+element-write-main c = omega (arith, parent-small (c .before .before .before))
 
 add-c : tie.Need-add-c Inv-loop μ-loop
 add-c c = omega arith
@@ -95,7 +83,7 @@ loop-again c =
     let h = c .before .before .before .before .before .before .loop .inv in
     let e = c .before .before .before .wide .ensures .0 in (
       bests-more _ _ _ _ _ _ _ (h .3 .1) loop-test-taken (omega arith)
-          (rw e at (read-child (h .1) _ _ (h .2) loop-test-taken e)) e (h .0)
+          (rw e at (parent-in (c .before .before .before))) e (h .0)
           (rw (c .before .wide2 .ensures .0) at (c .better .ensures)),
       h .1,
       omega arith,
