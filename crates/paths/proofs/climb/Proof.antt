@@ -1,6 +1,7 @@
 -- `paths::climb` goes up from a to node 0. The invariant: it has come to x, with the length and the lifted weight of
--- the path from a, and what it passed is marked. The place falls.
-use Prim.Native.Nat.{_<_}
+-- the path from a, and what it passed is marked. The place falls. No sum wraps or falls below 0, since a path has no
+-- more than 4,095 branches and the weight is lifted by more than they all weigh (`sums-fit`).
+use Prim.Native.Nat.{_≤_, _<_}
 use mathlib.Core.Path.{refl}
 use native.Mathlib.Omega.{arith}
 use borrow.Author.Needs.{needs}
@@ -38,11 +39,16 @@ mul-l c = omega arith
 element-copy-out-l : tie.Need-element-copy-out-l Inv-loop μ-loop
 element-copy-out-l c = omega arith
 
+sums-fit : (c : tie.In-loop Inv-loop μ-loop)
+    → (c .before .loop .l ≤ 4096000000)
+    × (at (c .before .before .before .before .args .bl .now) (c .before .loop .x) ≤ 1000000)
+    × (1000000 ≤ c .before .loop .w)
+    × (c .before .loop .w ≤ 17179869184)
+    × (at (c .before .before .before .before .args .bw .now) (c .before .loop .x) ≤ 2000000)
+sums-fit c = climb-fits (c .before .loop .inv .0) (c .before .loop .inv .1) (c .loop-test .taken)
+
 add-l : tie.Need-add-l Inv-loop μ-loop
-add-l c =
-    let loop-inv = c .before .before .loop .inv in
-    let h = climb-fits (loop-inv .0) (loop-inv .1) (c .before .loop-test .taken) in
-    omega (arith, h .0, h .1, h .2, h .3, h .4)
+add-l c = let h = sums-fit (c .before) in omega (arith, h .0, h .1)
 
 mul-w : tie.Need-mul-w Inv-loop μ-loop
 mul-w c = omega arith
@@ -51,16 +57,10 @@ element-copy-out-w : tie.Need-element-copy-out-w Inv-loop μ-loop
 element-copy-out-w c = omega arith
 
 add-w : tie.Need-add-w Inv-loop μ-loop
-add-w c =
-    let loop-inv = c .before .before .before .loop .inv in
-    let h = climb-fits (loop-inv .0) (loop-inv .1) (c .before .before .loop-test .taken) in
-    omega (arith, h .0, h .1, h .2, h .3, h .4)
+add-w c = let h = sums-fit (c .before .before) in omega (arith, h .3, h .4)
 
 sub-w : tie.Need-sub-w Inv-loop μ-loop
-sub-w c =
-    let loop-inv = c .before .before .before .loop .inv in
-    let h = climb-fits (loop-inv .0) (loop-inv .1) (c .before .before .loop-test .taken) in
-    omega (arith, h .0, h .1, h .2, h .3, h .4)
+sub-w c = let h = sums-fit (c .before .before) in omega (arith, h .2)
 
 mul-wide : tie.Need-mul-wide Inv-loop μ-loop
 mul-wide c = omega arith
