@@ -1,4 +1,5 @@
--- `answers::ground::branches` reads each node's row. The invariant: the nodes below x have theirs.
+-- `answers::ground::branches` reads each node's row. The invariant: the nodes below x have theirs. x is a node, and
+-- both lists keep their 4,096 places, so there is one for x.
 use Prim.Native.Nat.{_-_, _/_, _≤_, _<_}
 use mathlib.Core.Path.{ap, _∙_}
 use native.Mathlib.Omega.{arith}
@@ -49,24 +50,16 @@ long-requires-2 : tie.Need-long-requires-2 Inv-loop μ-loop
 long-requires-2 c κs = search needs
 
 mul-bl : tie.Need-mul-bl Inv-loop μ-loop
-mul-bl c =
-    let loop-inv = c .before .before .before .before .before .before .before .loop .inv in
-    omega (arith, loop-inv .0 .bl-long, loop-inv .0 .bw-long)
+mul-bl c = omega arith
 
 element-write-bl : tie.Need-element-write-bl Inv-loop μ-loop
-element-write-bl c =
-    let loop-inv = c .before .before .before .before .before .before .before .loop .inv in
-    omega (arith, loop-inv .0 .bl-long, loop-inv .0 .bw-long)
+element-write-bl c = omega (arith, c .before .before .before .before .before .before .before .loop .inv .0 .bl-long)
 
 mul-bw : tie.Need-mul-bw Inv-loop μ-loop
-mul-bw c =
-    let loop-inv = c .before .before .before .before .before .before .before .loop .inv in
-    omega (arith, loop-inv .0 .bl-long, loop-inv .0 .bw-long)
+mul-bw c = omega arith
 
 element-write-bw : tie.Need-element-write-bw Inv-loop μ-loop
-element-write-bw c =
-    let loop-inv = c .before .before .before .before .before .before .before .loop .inv in
-    omega (arith, loop-inv .0 .bl-long, loop-inv .0 .bw-long)
+element-write-bw c = omega (arith, c .before .before .before .before .before .before .before .loop .inv .0 .bw-long)
 
 add-x : tie.Need-add-x Inv-loop μ-loop
 add-x c = omega arith

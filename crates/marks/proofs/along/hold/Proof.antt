@@ -1,5 +1,5 @@
 -- `marks::along::hold` meets its contract. The loop's invariant: the rows behind and the rows ahead are the climb's,
--- and the free ones behind are held.
+-- and the free ones behind are held. Short of t the climb stands at a node (`node-in`).
 use Rattle.arrays.specs.Filled.{at}
 use Rattle.marks.proofs.Climbing.{
   Taking,
@@ -10,7 +10,7 @@ use Rattle.marks.proofs.Climbing.{
   along-fits,
   along-less,
 }
-use Prim.Native.Nat.{_/_, ℕ}
+use Prim.Native.Nat.{_/_, _<_, ℕ}
 use mathlib.Core.Path.{ap}
 use native.Mathlib.Omega.{arith}
 use borrow.Author.Needs.{needs}
@@ -26,11 +26,14 @@ abbrev μ-loop : tie.MeasureT-loop
 loop-holds : tie.Need-loop-holds Inv-loop μ-loop
 loop-holds c = taking-start (c .before .pre .0)
 
+node-in : (c : tie.In-loop Inv-loop μ-loop) → c .before .loop .v < 4096
+node-in c = along-fits (c .before .loop .inv .along) (c .loop-test .taken)
+
 mul-wide : tie.Need-mul-wide Inv-loop μ-loop
-mul-wide c = omega (arith, along-fits (c .before .loop .inv .along) (c .loop-test .taken))
+mul-wide c = omega (arith, node-in c)
 
 element-copy-out-wide : tie.Need-element-copy-out-wide Inv-loop μ-loop
-element-copy-out-wide c = omega (arith, along-fits (c .before .loop .inv .along) (c .loop-test .taken))
+element-copy-out-wide c = omega (arith, node-in c)
 
 wide-requires : tie.Need-wide-requires Inv-loop μ-loop
 wide-requires c κs = search needs
@@ -43,16 +46,10 @@ take-requires c κs =
     omega (arith, taking-row loop-test-taken loop-inv)
 
 mul-wide-2 : tie.Need-mul-wide-2 Inv-loop μ-loop
-mul-wide-2 c =
-    let loop-test-taken = c .before .before .before .before .before .before .loop-test .taken in
-    let loop-inv = c .before .before .before .before .before .before .before .loop .inv in
-    omega (arith, along-fits (loop-inv .along) loop-test-taken)
+mul-wide-2 c = omega (arith, node-in (c .before .before .before .before .before .before))
 
 element-copy-out-wide-2 : tie.Need-element-copy-out-wide-2 Inv-loop μ-loop
-element-copy-out-wide-2 c =
-    let loop-test-taken = c .before .before .before .before .before .before .loop-test .taken in
-    let loop-inv = c .before .before .before .before .before .before .before .loop .inv in
-    omega (arith, along-fits (loop-inv .along) loop-test-taken)
+element-copy-out-wide-2 c = omega (arith, node-in (c .before .before .before .before .before .before))
 
 wide-requires-2 : tie.Need-wide-requires-2 Inv-loop μ-loop
 wide-requires-2 c κs = search needs

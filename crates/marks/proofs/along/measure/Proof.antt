@@ -1,5 +1,6 @@
 -- `marks::along::measure` meets its contract. The loop's invariant: the rows behind and the rows ahead are the climb's,
--- and the sums are those of the rows behind. The measure is the place, which falls at each step up.
+-- and the sums are those of the rows behind. The measure is the place, which falls at each step up. Short of t the
+-- climb stands at a node (`node-in`).
 use Rattle.arrays.specs.Filled.{at}
 use Rattle.marks.proofs.Climbing.{
   Measuring,
@@ -12,7 +13,7 @@ use Rattle.marks.proofs.Climbing.{
 }
 use Rattle.marks.proofs.Held.{one-most}
 use Rattle.tree.proofs.Net.{reads-length}
-use Prim.Native.Nat.{_/_, ℕ}
+use Prim.Native.Nat.{_/_, _<_, ℕ}
 use mathlib.Core.Path.{ap, _∙_}
 use native.Mathlib.Omega.{arith}
 use lib.ListN.{length}
@@ -30,11 +31,14 @@ abbrev μ-loop : tie.MeasureT-loop
 loop-holds : tie.Need-loop-holds Inv-loop μ-loop
 loop-holds c = measuring-start (c .before .before .args .table .now) (c .before .before .pre .0)
 
+node-in : (c : tie.In-loop Inv-loop μ-loop) → c .before .loop .v < 4096
+node-in c = along-fits (c .before .loop .inv .along) (c .loop-test .taken)
+
 mul-wide : tie.Need-mul-wide Inv-loop μ-loop
-mul-wide c = omega (arith, along-fits (c .before .loop .inv .along) (c .loop-test .taken))
+mul-wide c = omega (arith, node-in c)
 
 element-copy-out-wide : tie.Need-element-copy-out-wide Inv-loop μ-loop
-element-copy-out-wide c = omega (arith, along-fits (c .before .loop .inv .along) (c .loop-test .taken))
+element-copy-out-wide c = omega (arith, node-in c)
 
 wide-requires : tie.Need-wide-requires Inv-loop μ-loop
 wide-requires c κs = search needs
@@ -81,16 +85,10 @@ add-free c =
     )
 
 mul-wide-2 : tie.Need-mul-wide-2 Inv-loop μ-loop
-mul-wide-2 c =
-    let loop-test-taken = c .before .before .before .before .before .before .loop-test .taken in
-    let loop-inv = c .before .before .before .before .before .before .before .loop .inv in
-    omega (arith, along-fits (loop-inv .along) loop-test-taken)
+mul-wide-2 c = omega (arith, node-in (c .before .before .before .before .before .before))
 
 element-copy-out-wide-2 : tie.Need-element-copy-out-wide-2 Inv-loop μ-loop
-element-copy-out-wide-2 c =
-    let loop-test-taken = c .before .before .before .before .before .before .loop-test .taken in
-    let loop-inv = c .before .before .before .before .before .before .before .loop .inv in
-    omega (arith, along-fits (loop-inv .along) loop-test-taken)
+element-copy-out-wide-2 c = omega (arith, node-in (c .before .before .before .before .before .before))
 
 wide-requires-2 : tie.Need-wide-requires-2 Inv-loop μ-loop
 wide-requires-2 c κs = search needs

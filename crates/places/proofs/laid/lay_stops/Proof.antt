@@ -1,5 +1,5 @@
 -- `places::lay_stops` meets its contract: the invariant says that the nodes below v have put theirs. The measure is
--- what is left of the nodes.
+-- what is left of the nodes. v and its spot are places of the arrays (`node-in`, `spot-in`).
 use Prim.Native.Nat.{ℕ, _+_, _-_, _≤_, _<_}
 use mathlib.Core.Path.{_≡_, refl}
 use native.Mathlib.Omega.{arith}
@@ -29,26 +29,29 @@ loop-holds c =
     let pre = c .before .before .pre in
     (omega arith, omega (arith, pre .0 .some), pre .0, laid-none _ _ _ _ (c .fill .ensures), pre .1)
 
+node-in : (c : tie.In-loop Inv-loop μ-loop) → c .before .loop .v < 4096
+node-in c = omega (arith, c .before .loop .inv .2 .small)
+
 mul-wide : tie.Need-mul-wide Inv-loop μ-loop
-mul-wide c = omega (arith, c .before .loop .inv .2 .small)
+mul-wide c = omega (arith, node-in c)
 
 element-copy-out-wide : tie.Need-element-copy-out-wide Inv-loop μ-loop
-element-copy-out-wide c = omega (arith, c .before .loop .inv .2 .small)
+element-copy-out-wide c = omega (arith, node-in c)
 
 wide-requires : tie.Need-wide-requires Inv-loop μ-loop
 wide-requires c κs = search needs
 
 mul-stops : tie.Need-mul-stops Inv-loop μ-loop
-mul-stops c = omega (arith, c .before .before .before .loop .inv .2 .small)
+mul-stops c = omega (arith, node-in (c .before .before))
 
 element-copy-out-stops : tie.Need-element-copy-out-stops Inv-loop μ-loop
-element-copy-out-stops c = omega (arith, c .before .before .before .loop .inv .2 .small)
+element-copy-out-stops c = omega (arith, node-in (c .before .before))
 
 mul-stops-2 : tie.Need-mul-stops-2 Inv-loop μ-loop
-mul-stops-2 c = omega (arith, c .before .before .before .before .loop .inv .2 .small)
+mul-stops-2 c = omega (arith, node-in (c .before .before .before))
 
 element-copy-out-stops-2 : tie.Need-element-copy-out-stops-2 Inv-loop μ-loop
-element-copy-out-stops-2 c = omega (arith, c .before .before .before .before .loop .inv .2 .small)
+element-copy-out-stops-2 c = omega (arith, node-in (c .before .before .before))
 
 add-stops : tie.Need-add-stops Inv-loop μ-loop
 add-stops c =
@@ -56,17 +59,16 @@ add-stops c =
     let loop-inv = c .before .before .before .before .before .loop .inv in
     omega (arith, loop-inv .4 _ loop-test-taken, loop-inv .2 .small)
 
+spot-in : (c : tie.After-wide Inv-loop μ-loop) → c .wide .result < 4096
+spot-in c =
+    let loop-inv = c .before .before .before .loop .inv in
+    spot-small _ _ _ _ (loop-inv .2) (c .before .before .loop-test .taken) (c .wide .ensures .0)
+
 mul-stops-3 : tie.Need-mul-stops-3 Inv-loop μ-loop
-mul-stops-3 c =
-    let loop-test-taken = c .before .before .before .before .loop-test .taken in
-    let loop-inv = c .before .before .before .before .before .loop .inv in
-    omega (arith, spot-small _ _ _ _ (loop-inv .2) loop-test-taken (c .before .before .wide .ensures .0))
+mul-stops-3 c = omega (arith, spot-in (c .before .before))
 
 element-write-stops : tie.Need-element-write-stops Inv-loop μ-loop
-element-write-stops c =
-    let loop-test-taken = c .before .before .before .before .loop-test .taken in
-    let loop-inv = c .before .before .before .before .before .loop .inv in
-    omega (arith, spot-small _ _ _ _ (loop-inv .2) loop-test-taken (c .before .before .wide .ensures .0))
+element-write-stops c = omega (arith, spot-in (c .before .before))
 
 add-v : tie.Need-add-v Inv-loop μ-loop
 add-v c = omega arith

@@ -1,5 +1,6 @@
 -- `places::seats` meets its contract. The invariant: the first i nodes of the walk have their spots (`Seating`). The
--- measure is what is left of the walk.
+-- measure is what is left of the walk. The i-th node and its parent have a place in each array (`node-in`,
+-- `parent-in`), as the walk reaches no other.
 use Prim.Native.Nat.{_-_, _≤_, _<_}
 use mathlib.Core.Path.{_≡_}
 use native.Mathlib.Omega.{arith}
@@ -49,18 +50,25 @@ element-copy-out-wide c = omega (arith, c .before .loop .inv .2 .some)
 wide-requires : tie.Need-wide-requires Inv-loop μ-loop
 wide-requires c κs = search needs
 
-mul-wide-2 : tie.Need-mul-wide-2 Inv-loop μ-loop
-mul-wide-2 c =
-    let loop-inv = c .before .before .before .loop .inv in
-    omega (arith, read-node (loop-inv .2) _ _ (c .before .before .loop-test .taken) (c .wide .ensures .0))
-
-element-copy-out-wide-2 : tie.Need-element-copy-out-wide-2 Inv-loop μ-loop
-element-copy-out-wide-2 c =
+node-in : (c : tie.After-wide Inv-loop μ-loop) → c .wide .result < 4096
+node-in c =
     let loop-inv = c .before .before .before .loop .inv in
     read-node (loop-inv .2) _ _ (c .before .before .loop-test .taken) (c .wide .ensures .0)
 
+mul-wide-2 : tie.Need-mul-wide-2 Inv-loop μ-loop
+mul-wide-2 c = omega (arith, node-in c)
+
+element-copy-out-wide-2 : tie.Need-element-copy-out-wide-2 Inv-loop μ-loop
+element-copy-out-wide-2 c = node-in c
+
 wide-requires-2 : tie.Need-wide-requires-2 Inv-loop μ-loop
 wide-requires-2 c κs = search needs
+
+parent-in : (c : tie.After-wide2 Inv-loop μ-loop) → c .wide2 .result < 4096
+parent-in c =
+    let loop-test-taken = c .before .before .before .before .loop-test .taken in
+    let h = c .before .before .before .before .before .loop .inv in
+    read-parent (h .2) _ _ _ (h .0) loop-test-taken (c .before .before .wide .ensures .0) (c .wide2 .ensures .0)
 
 seat-of-requires : tie.Need-seat-of-requires Inv-loop μ-loop
 seat-of-requires c κs =
@@ -68,39 +76,21 @@ seat-of-requires c κs =
     let l = c .before .before .before .before .before .before .loop-test .taken in
     let ev = c .before .before .before .before .wide .ensures .0 in
     let ep = c .before .before .wide2 .ensures .0 in (
-      (read-parent (h .2) _ _ _ (h .0) l ev ep, read-node (h .2) _ _ l ev),
+      (parent-in (c .before .before), node-in (c .before .before .before .before)),
       seat-room (h .2) _ (h .3) _ _ _ _ _ (h .0) l ev ep (h .4),
     )
 
 mul-spot : tie.Need-mul-spot Inv-loop μ-loop
-mul-spot c =
-    let wide-ensures = c .before .before .before .before .before .wide .ensures in
-    let loop-test-taken = c .before .before .before .before .before .before .before .loop-test .taken in
-    let loop-inv = c .before .before .before .before .before .before .before .before .loop .inv in
-    omega (arith, read-node (loop-inv .2) _ _ loop-test-taken (wide-ensures .0))
+mul-spot c = omega (arith, node-in (c .before .before .before .before .before))
 
 element-write-spot : tie.Need-element-write-spot Inv-loop μ-loop
-element-write-spot c =
-    let wide-ensures = c .before .before .before .before .before .wide .ensures in
-    let loop-test-taken = c .before .before .before .before .before .before .before .loop-test .taken in
-    let loop-inv = c .before .before .before .before .before .before .before .before .loop .inv in
-    omega (arith, read-node (loop-inv .2) _ _ loop-test-taken (wide-ensures .0))
+element-write-spot c = omega (arith, node-in (c .before .before .before .before .before))
 
 mul-next : tie.Need-mul-next Inv-loop μ-loop
-mul-next c =
-    let wide2-ensures = c .before .before .before .wide2 .ensures in
-    let wide-ensures = c .before .before .before .before .before .wide .ensures in
-    let loop-test-taken = c .before .before .before .before .before .before .before .loop-test .taken in
-    let loop-inv = c .before .before .before .before .before .before .before .before .loop .inv in
-    omega (arith, read-parent (loop-inv .2) _ _ _ (loop-inv .0) loop-test-taken (wide-ensures .0) (wide2-ensures .0))
+mul-next c = omega (arith, parent-in (c .before .before .before))
 
 element-write-next : tie.Need-element-write-next Inv-loop μ-loop
-element-write-next c =
-    let wide2-ensures = c .before .before .before .wide2 .ensures in
-    let wide-ensures = c .before .before .before .before .before .wide .ensures in
-    let loop-test-taken = c .before .before .before .before .before .before .before .loop-test .taken in
-    let loop-inv = c .before .before .before .before .before .before .before .before .loop .inv in
-    omega (arith, read-parent (loop-inv .2) _ _ _ (loop-inv .0) loop-test-taken (wide-ensures .0) (wide2-ensures .0))
+element-write-next c = omega (arith, parent-in (c .before .before .before))
 
 add-next : tie.Need-add-next Inv-loop μ-loop
 add-next c =
@@ -115,18 +105,10 @@ add-next c =
     )
 
 mul-next-2 : tie.Need-mul-next-2 Inv-loop μ-loop
-mul-next-2 c =
-    let wide-ensures = c .before .before .before .before .before .wide .ensures in
-    let loop-test-taken = c .before .before .before .before .before .before .before .loop-test .taken in
-    let loop-inv = c .before .before .before .before .before .before .before .before .loop .inv in
-    omega (arith, read-node (loop-inv .2) _ _ loop-test-taken (wide-ensures .0))
+mul-next-2 c = omega (arith, node-in (c .before .before .before .before .before))
 
 element-write-next-2 : tie.Need-element-write-next-2 Inv-loop μ-loop
-element-write-next-2 c =
-    let wide-ensures = c .before .before .before .before .before .wide .ensures in
-    let loop-test-taken = c .before .before .before .before .before .before .before .loop-test .taken in
-    let loop-inv = c .before .before .before .before .before .before .before .before .loop .inv in
-    omega (arith, read-node (loop-inv .2) _ _ loop-test-taken (wide-ensures .0))
+element-write-next-2 c = omega (arith, node-in (c .before .before .before .before .before))
 
 add-i : tie.Need-add-i Inv-loop μ-loop
 add-i c = omega arith
