@@ -8,7 +8,7 @@ use mathlib.Core.List.{List}
 use native.Mathlib.Omega.{arith}
 use lib.IntN.{ℤ}
 use Rattle.tree.specs.declared.Refusal.{Refusal}
-use Rattle.tree.specs.Members.{at}
+use Rattle.arrays.specs.Members.{at}
 use Rattle.tree.proofs.Counts.{count-some}
 use Rattle.spines.proofs.Theorems.{head-there}
 use Rattle.answers.specs.Heaviest as H

@@ -11,7 +11,7 @@ use lib.ListN.{length}
 use lib.Signed.{_≤ℤ_}
 use Rattle.table.specs.Refuse.{refused, passed}
 use Rattle.table.specs.Header.{nodesOf, boundOf}
-use Rattle.table.proofs.Refusals.{past}
+use Rattle.table.proofs.Refusals.{past, not-refused}
 use Rattle.tree.specs.Accept.{found as accepted, Accepts}
 use Rattle.tree.proofs.Begins.{begins-past, begins-rest}
 use Rattle.pages.specs.Listing.{Entry, Before}
@@ -53,8 +53,8 @@ module _ (none : ℕ) (Within : ℕ → Type 0) (s marks : List ℕ) where
   pub found-within : none ≢ 0 → (o : Outcome) → o .number ≡ 0 → HeaviestWithin none Within s marks o
       → (e : Entry) × Heaviest (Passing Within s marks) e × (o ≡ found e)
   found-within some o z p =
-      let plain : (k r g : ℕ) → (k ≡ 0 → ⊥) → refusal k r g ≡ o → ⊥ = λ k r g m e. m
-      (ap (λ (x : Outcome). x .number) e ∙ z) in
+      let plain : (k r g : ℕ) → (k ≡ 0 → ⊥) → refusal k r g ≡ o → ⊥ = λ k r g. not-refused
+      (λ (x : Outcome). x .number) z in
       let g = past (plain none 0 0 some)
       (past (plain 13 0 0 (λ e. omega (arith, e))) (begins-past refusal s plain p .1) .1) .1 in
       (g .run, g .heaviest, g .is)

@@ -6,7 +6,8 @@ use mathlib.Core.List.{List, [], _∷_}
 use native.Mathlib.Omega.{arith}
 use lib.IntN.{ℤ}
 use lib.ListN.{length, length-append}
-use Rattle.pages.specs.Listing.{Entry, first, second, Before, In, at, past, Rising, more}
+use Rattle.arrays.specs.Members.{In, at, past}
+use Rattle.pages.specs.Listing.{Entry, first, second, Before, Rising, more}
 use Rattle.pages.proofs.Rows.{rows-length}
 use Rattle.answers.specs.Listing.{Outcome, ListingWithin}
 use Rattle.answers.proofs.ListingOnly.{listing-page}

@@ -4,31 +4,14 @@ use Prim.Native.Nat.{ℕ}
 use mathlib.Core.Path.{_≡_}
 use mathlib.Core.List.{List}
 use lib.ListN.{length}
-use Rattle.table.specs.Refuse.{Unless, refused, passed}
-use Rattle.table.proofs.Refusals.{unless-map}
-use Rattle.tree.proofs.Begins.{begins-map}
+use Rattle.table.specs.Header.{nodesOf}
+use Rattle.table.proofs.Refusals.{unless-map, unless-alike}
+use Rattle.tree.proofs.Begins.{begins-alike}
 use Rattle.marks.proofs.Weights.{Alike}
 use Rattle.pages.specs.Listing.{Entry}
 use Rattle.answers.specs.Heaviest.{Outcome, refusal, Runs, Gives, Goes, HeaviestWithin}
-use Rattle.answers.proofs.Holders.{path-alike, flip}
-use Rattle.answers.proofs.HeaviestOnly.{heaviest-within-only}
-
--- the same condition in other words
-unless-iff : {A : Type 0} {no : A} {Ok Ok′ : Type 0} {rest rest′ : A → Type 0} {x : A} → (Ok → Ok′) → (Ok′ → Ok)
-    → (rest x → rest′ x) → Unless A no Ok rest x → Unless A no Ok′ rest′ x
-unless-iff f g h (refused c) = refused (λ k. c (g k))
-unless-iff f g h (passed k p) = passed (f k) (h p)
-
-runs-alike : (Within : ℕ → Type 0) (s marks marks′ : List ℕ) (n : ℕ) → Alike marks marks′ → (e : Entry)
-    → Runs Within s marks n e → Runs Within s marks′ n e
-runs-alike Within s marks marks′ n h e r =
-    record {
-      pair = r .pair;
-      node = r .node;
-      path = path-alike s marks marks′ h n (r .path);
-      short = r .short;
-      heavy = tt;
-    }
+use Rattle.answers.proofs.Holders.{passes-alike, flip}
+use Rattle.answers.proofs.HeaviestOnly.{goes-only}
 
 gives-alike : {P Q : Entry → Type 0} {x : Outcome} → ((e : Entry) → P e → Q e) → ((e : Entry) → Q e → P e) → Gives P x
     → Gives Q x
@@ -43,15 +26,14 @@ module _ (none : ℕ) (Within : ℕ → Type 0) (s marks marks′ : List ℕ) (h
     (e : length marks ≡ length marks′) where
   goes-alike : {n : ℕ} {x : Outcome} → Goes none Within s n marks x → Goes none Within s n marks′ x
   goes-alike {n} p =
-      let f = runs-alike Within s marks marks′ n h in
-      let g = runs-alike Within s marks′ marks n (flip marks marks′ h) in
+      let f : (r : Entry) → Runs Within s marks n r → Runs Within s marks′ n r = passes-alike s marks marks′ h n in
+      let g : (r : Entry) → Runs Within s marks′ n r → Runs Within s marks n r = passes-alike s marks′ marks
+      (flip marks marks′ h) n in
       rw (← e)
       (unless-map (λ o. o)
-      (λ _. unless-iff (λ t. (t .0, f (t .0) (t .1))) (λ t. (t .0, g (t .0) (t .1))) (gives-alike f g)) p)
-
-  heaviest-alike : {x : Outcome} → HeaviestWithin none Within s marks x → HeaviestWithin none Within s marks′ x
-  heaviest-alike p = begins-map refusal s (λ _. goes-alike) p
+      (λ _. unless-alike (λ t. (t .0, f (t .0) (t .1))) (λ t. (t .0, g (t .0) (t .1))) (gives-alike f g)) p)
 
   pub heaviest-holders-never-show : (x y : Outcome) → HeaviestWithin none Within s marks x
       → HeaviestWithin none Within s marks′ y → x ≡ y
-  heaviest-holders-never-show x y p q = heaviest-within-only none Within s marks′ x y (heaviest-alike p) q
+  heaviest-holders-never-show =
+      begins-alike refusal s (λ _ x y p q. goes-only none Within s (nodesOf s) marks′ x y (goes-alike p) q)

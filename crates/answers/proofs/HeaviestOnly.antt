@@ -9,6 +9,7 @@ use lib.Dec.{leb→le}
 use lib.IntN.{ℤ, pos, negsuc}
 use lib.Signed.{_≤ℤ_}
 use Rattle.table.specs.Refuse.{Only}
+use Rattle.table.specs.Header.{nodesOf}
 use Rattle.table.proofs.Refusals.{unless-only}
 use Rattle.tree.proofs.Begins.{begins-only}
 use Rattle.pages.specs.Listing.{Entry, Before, first, second}
@@ -18,6 +19,7 @@ use Rattle.answers.specs.Heaviest.{
   AtLeast,
   Heaviest,
   Gives,
+  Goes,
   HeaviestWithin,
   HeaviestOf,
   HeaviestExactOf,
@@ -59,9 +61,13 @@ gives-only : (P : Entry → Type 0) → Only (Gives P)
 gives-only P x y p q =
     p .is ∙ ap found (heaviest-run-only P (p .run) (q .run) (p .heaviest) (q .heaviest)) ∙ sym (q .is)
 
+pub goes-only : (none : ℕ) (Within : ℕ → Type 0) (s : List ℕ) (n : ℕ) (marks : List ℕ)
+    → Only (Goes none Within s n marks)
+goes-only none Within s n marks = unless-only (unless-only (gives-only _))
+
 pub heaviest-within-only : (none : ℕ) (Within : ℕ → Type 0) (s marks : List ℕ)
     → Only (HeaviestWithin none Within s marks)
-heaviest-within-only none Within s marks = begins-only refusal s (unless-only (unless-only (gives-only _)))
+heaviest-within-only none Within s marks = begins-only refusal s (goes-only none Within s (nodesOf s) marks)
 
 pub heaviest-only : (s marks : List ℕ) → Only (HeaviestOf s marks)
 heaviest-only s = heaviest-within-only 16 _ s

@@ -8,7 +8,7 @@ use native.Mathlib.Omega.{arith}
 use lib.IntN.{ℤ}
 use Rattle.table.specs.Signed.{Diff}
 use Rattle.table.specs.Lift.{LoweredOf}
-use Rattle.table.proofs.Lift.{same, order-back, lift-only, diff-only}
+use Rattle.table.proofs.Lift.{same, order-back, lift-only, diff-only, equally}
 use Rattle.tree.specs.Net.{firstEnd, secondEnd, Net}
 use Rattle.tree.proofs.Values.{length-only, weight-only}
 use Rattle.pages.specs.Listing.{Entry, entry, Before, first, second}
@@ -18,9 +18,6 @@ use Rattle.runs.specs.Lift.{lift}
 use Rattle.places.specs.BestPair.{Carried, BestPair}
 use Rattle.answers.specs.PathOf.{PathOf}
 use Rattle.answers.specs.Heaviest.{found, Runs, AtLeast, Gives}
-
-equally : {a b : ℕ} {y z : ℤ} → y ≡ z → Diff a b z → Diff a b y
-equally e h = rw e h
 
 module _ (s marks : List ℕ) {n : ℕ} {Within : ℕ → Type 0} (net : Net s n) {b : Best}
     (h : BestPair (PathOf s marks n) n Within b) where

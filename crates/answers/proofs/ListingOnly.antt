@@ -2,13 +2,13 @@
 -- without a number is a page of an accepted net.
 use Prim.Native.Nat.{ℕ}
 use mathlib.Core.Path.{_≡_, sym, ap, _∙_}
-use mathlib.Core.Bool.{cond}
+use mathlib.Core.Bool.{true≢false, false≢true}
 use mathlib.Core.List.{List}
 use native.Mathlib.Omega.{arith}
 use lib.IntN.{ℤ}
 use Rattle.table.specs.Refuse.{Only}
 use Rattle.table.specs.Header.{nodesOf}
-use Rattle.table.proofs.Refusals.{unless-only, past}
+use Rattle.table.proofs.Refusals.{unless-only, past, not-refused}
 use Rattle.tree.specs.Net.{Net}
 use Rattle.tree.proofs.Begins.{begins-only, begins-past}
 use Rattle.pages.specs.Listing.{Entry}
@@ -16,7 +16,16 @@ use Rattle.pages.specs.Passes.{Qualifies}
 use Rattle.pages.specs.Calls.{Paged}
 use Rattle.pages.proofs.Only.{paged-only}
 use Rattle.answers.specs.PathOf.{PathOf}
-use Rattle.answers.specs.Listing.{Outcome, refusal, outcome, Lists, ListingWithin, ListingOf, ListingExactOf}
+use Rattle.answers.specs.Listing.{
+  Outcome,
+  refusal,
+  outcome,
+  Lists,
+  Goes,
+  ListingWithin,
+  ListingOf,
+  ListingExactOf,
+}
 use Rattle.answers.specs.declared.Listed.{Listed}
 use Rattle.answers.specs.declared.Listed.the-variants.{Rows, Refused}
 
@@ -29,10 +38,14 @@ lists-only P low high old x y a b =
     let t : x .refused ≡ y .refused = a .taken ∙ sym (b .taken) in
     λ i. record { refused = t i; number = n i; row = r i; ring = g i; written = e .0 i; left = e .1 i; bytes = e .2 i }
 
+pub goes-only : (Within : ℕ → Type 0) (s : List ℕ) (n : ℕ) (marks : List ℕ) (floor : ℤ) (low high : ℕ) (old : List ℕ)
+    → Only (Goes Within s n marks floor low high old)
+goes-only Within s n marks floor low high old = unless-only (unless-only (lists-only _ low high old))
+
 pub listing-within-only : (Within : ℕ → Type 0) (s marks : List ℕ) (floor : ℤ) (low high : ℕ) (old : List ℕ)
     → Only (ListingWithin Within s marks floor low high old)
 listing-within-only Within s marks floor low high old =
-    begins-only (refusal old) s (unless-only (unless-only (lists-only _ low high old)))
+    begins-only (refusal old) s (goes-only Within s (nodesOf s) marks floor low high old)
 
 pub listing-only : (s marks : List ℕ) (floor : ℤ) (low high : ℕ) (old : List ℕ)
     → Only (ListingOf s marks floor low high old)
@@ -46,11 +59,9 @@ listing-exact-only s = listing-within-only _ s
 pub listed-one : (x y : Listed) (l m : List ℕ) → outcome x l ≡ outcome y m → x ≡ y
 listed-one (Rows a b) (Rows c d) l m e = λ i. Rows (e i .written) (e i .left)
 listed-one (Rows a b) (Refused w) l m e =
-    let f : _≡_ {A = ℕ} 0 1 = ap (λ (o : Outcome). cond (o .refused) 1 0) e in
-    absurd (omega (arith, f))
+    absurd (false≢true (ap (λ (o : Outcome). o .refused) e))
 listed-one (Refused w) (Rows a b) l m e =
-    let f : _≡_ {A = ℕ} 1 0 = ap (λ (o : Outcome). cond (o .refused) 1 0) e in
-    absurd (omega (arith, f))
+    absurd (true≢false (ap (λ (o : Outcome). o .refused) e))
 listed-one (Refused w) (Refused v) l m e =
     λ i. Refused (record { number = e i .number; row = e i .row; ring = e i .ring })
 
@@ -58,7 +69,7 @@ listed-one (Refused w) (Refused v) l m e =
 module _ (Within : ℕ → Type 0) (s marks : List ℕ) (floor : ℤ) (low high : ℕ) (old : List ℕ) (x : Outcome)
     (z : x .number ≡ 0) where
   plain : (k r g : ℕ) → (k ≡ 0 → ⊥) → refusal old k r g ≡ x → ⊥
-  plain k r g m e = m (ap (λ (o : Outcome). o .number) e ∙ z)
+  plain k r g = not-refused (λ (o : Outcome). o .number) z
 
   pub listing-page : ListingWithin Within s marks floor low high old x
       → Net s (nodesOf s)

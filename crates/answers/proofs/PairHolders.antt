@@ -6,11 +6,11 @@ use mathlib.Core.List.{List}
 use lib.ListN.{length}
 use Rattle.table.specs.Header.{nodesOf}
 use Rattle.table.proofs.Refusals.{unless-map}
-use Rattle.tree.proofs.Begins.{begins-map}
+use Rattle.tree.proofs.Begins.{begins-alike}
 use Rattle.marks.proofs.Weights.{Alike}
-use Rattle.answers.specs.Pair.{Outcome, refusal, Shows, PairOf}
+use Rattle.answers.specs.Pair.{Outcome, refusal, Shows, Measures, PairOf}
 use Rattle.answers.proofs.Holders.{path-alike}
-use Rattle.answers.proofs.PairOnly.{pair-only}
+use Rattle.answers.proofs.PairOnly.{measures-only}
 
 module _ (s marks marks′ : List ℕ) (h : Alike marks marks′) (e : length marks ≡ length marks′) (a b : ℕ) where
   shows-alike : (n : ℕ) {x : Outcome} → Shows s marks n a b x → Shows s marks′ n a b x
@@ -23,10 +23,10 @@ module _ (s marks marks′ : List ℕ) (h : Alike marks marks′) (e : length ma
         hops = p .hops;
       }
 
-  pair-alike : {x : Outcome} → PairOf s marks a b x → PairOf s marks′ a b x
-  pair-alike p =
-      begins-map refusal s
-      (λ _ q. rw (← e) (unless-map (λ o. o) (λ _. unless-map (λ o. o) (λ _. shows-alike (nodesOf s))) q)) p
+  measures-alike : (n : ℕ) {x : Outcome} → Measures s marks n a b x → Measures s marks′ n a b x
+  measures-alike n p = rw (← e) (unless-map (λ o. o) (λ _. unless-map (λ o. o) (λ _. shows-alike n)) p)
 
   pub pair-holders : (x y : Outcome) → PairOf s marks a b x → PairOf s marks′ a b y → x ≡ y
-  pair-holders x y p q = pair-only s marks′ a b x y (pair-alike p) q
+  pair-holders =
+      begins-alike refusal s
+      (λ t x y p q. measures-only s marks′ (nodesOf s) a b t x y (measures-alike (nodesOf s) p) q)

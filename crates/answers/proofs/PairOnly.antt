@@ -9,7 +9,7 @@ use Rattle.tree.specs.Net.{firstEnd, secondEnd, Net}
 use Rattle.tree.proofs.Values.{length-only, weight-only}
 use Rattle.tree.proofs.Begins.{begins-net-only}
 use Rattle.spines.proofs.HopsBound.{hops-only}
-use Rattle.answers.specs.Pair.{refusal, Shows, PairOf}
+use Rattle.answers.specs.Pair.{refusal, Shows, Measures, PairOf}
 
 shows-only : (s marks : List ℕ) (n a b : ℕ) → Net s n → Only (Shows s marks n a b)
 shows-only s marks n a b t x y p q =
@@ -21,6 +21,8 @@ shows-only s marks n a b t x y p q =
     let h : x .hops ≡ y .hops = hops-only (t .forest) (p .hops) (q .hops) in
     λ i. record { number = k i; row = r i; ring = g i; length = l i; weight = w i; hops = h i }
 
+pub measures-only : (s marks : List ℕ) (n a b : ℕ) → Net s n → Only (Measures s marks n a b)
+measures-only s marks n a b t = unless-only (unless-only (shows-only s marks n a b t))
+
 pub pair-only : (s marks : List ℕ) (a b : ℕ) → Only (PairOf s marks a b)
-pair-only s marks a b =
-    begins-net-only refusal s (λ t. unless-only (unless-only (shows-only s marks (nodesOf s) a b t)))
+pair-only s marks a b = begins-net-only refusal s (measures-only s marks (nodesOf s) a b)

@@ -1,26 +1,25 @@
 -- Theorems on the pair's answer: what an answer without a number shows, that its hops are bounded, and that the order
 -- of the two nodes does not matter.
 use Prim.Native.Nat.{ℕ, _+_, _-_, _*_, _≤_}
-use mathlib.Core.Path.{_≡_, ap, _∙_}
+use mathlib.Core.Path.{_≡_}
 use mathlib.Core.List.{List}
 use native.Mathlib.Omega.{arith}
-use Rattle.table.specs.Refuse.{Unless, refused, passed}
 use Rattle.table.specs.Header.{nodesOf}
-use Rattle.table.proofs.Refusals.{past, unless-map}
+use Rattle.table.proofs.Refusals.{past, unless-map, unless-alike, not-refused}
 use Rattle.tree.specs.Count.{Count}
 use Rattle.tree.specs.Net.{firstEnd, secondEnd, Net, TwoNodes}
-use Rattle.tree.proofs.Begins.{begins-past, begins-map}
-use Rattle.tree.proofs.Flip.{value-flip}
+use Rattle.tree.proofs.Begins.{begins-past, begins-alike}
+use Rattle.tree.proofs.Flip.{value-flip, two-flip}
 use Rattle.spines.specs.Spine.{ChildOf, Leaf}
 use Rattle.spines.specs.Hops.{FloorLog}
 use Rattle.spines.proofs.HopsBound.{hops-flip}
 use Rattle.spines.proofs.Theorems.{hops-at-most}
-use Rattle.answers.specs.Pair.{Outcome, refusal, Shows, PairOf}
-use Rattle.answers.proofs.PairOnly.{pair-only}
+use Rattle.answers.specs.Pair.{Outcome, refusal, Shows, Measures, PairOf}
+use Rattle.answers.proofs.PairOnly.{measures-only}
 
 module _ (s marks : List ℕ) (a b : ℕ) (x : Outcome) (z : x .number ≡ 0) (p : PairOf s marks a b x) where
   plain : (k r g : ℕ) → (k ≡ 0 → ⊥) → refusal k r g ≡ x → ⊥
-  plain k r g m e = m (ap (λ (o : Outcome). o .number) e ∙ z)
+  plain k r g = not-refused (λ (o : Outcome). o .number) z
 
   -- an answer without a number shows the path between two different nodes of an accepted net
   pub pair-shows : Net s (nodesOf s) × TwoNodes (nodesOf s) a b × Shows s marks (nodesOf s) a b x
@@ -37,9 +36,6 @@ module _ (s marks : List ℕ) (a b : ℕ) (x : Outcome) (z : x .number ≡ 0) (p
   pair-hops l c h f = let q = pair-shows in hops-at-most (q .0) (q .1 .first) (q .1 .second) (q .2 .hops) h f
 
 -- Either order
-two-flip : {n a b : ℕ} → TwoNodes n a b → TwoNodes n b a
-two-flip t = record { first = t .second; second = t .first; apart = λ e. t .apart (omega (arith, e)) }
-
 shows-flip : {s marks : List ℕ} {n a b : ℕ} {x : Outcome} → Shows s marks n a b x → Shows s marks n b a x
 shows-flip {s} p =
     record {
@@ -50,13 +46,9 @@ shows-flip {s} p =
       hops = hops-flip (p .hops);
     }
 
-nodes-flip : {s marks : List ℕ} {n a b : ℕ} {x : Outcome}
-    → Unless Outcome (refusal 15 0 0) (TwoNodes n a b) (Shows s marks n a b) x
-    → Unless Outcome (refusal 15 0 0) (TwoNodes n b a) (Shows s marks n b a) x
-nodes-flip (refused c) = refused (λ t. c (two-flip t))
-nodes-flip (passed t p) = passed (two-flip t) (shows-flip p)
+measures-flip : {s marks : List ℕ} {n a b : ℕ} {x : Outcome} → Measures s marks n a b x → Measures s marks n b a x
+measures-flip = unless-map (λ o. o) (λ _. unless-alike two-flip two-flip shows-flip)
 
 pub pair-either : (s marks : List ℕ) (a b : ℕ) (x y : Outcome) → PairOf s marks a b x → PairOf s marks b a y → x ≡ y
-pair-either s marks a b x y p q =
-    pair-only s marks b a x y
-    (begins-map refusal s (λ _. unless-map (λ o. o) (λ _. nodes-flip)) p) q
+pair-either s marks a b =
+    begins-alike refusal s (λ t x y p q. measures-only s marks (nodesOf s) b a t x y (measures-flip p) q)

@@ -1,3 +1,4 @@
--- Laws of filled lists and of stores, for this crate and those above.
+-- Laws of filled lists, of stores and of members, for this crate and those above.
 pub mod Fills
 pub mod Stores
+pub mod Members

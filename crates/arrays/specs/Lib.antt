@@ -1,2 +1,3 @@
--- What the contracts of this crate cite.
+-- What the contracts of this crate and of those above cite.
 pub mod Filled
+pub mod Members

@@ -5,7 +5,8 @@ use mathlib.Core.List.{List, [], _∷_}
 use native.Mathlib.Omega.{arith}
 use native.Mathlib.Decide.{ℕ-discrete}
 use lib.ListN.{length, length-append}
-use Rattle.pages.specs.Listing.{Entry, In, at, past}
+use Rattle.arrays.specs.Members.{In, at, past}
+use Rattle.pages.specs.Listing.{Entry}
 use Rattle.pages.specs.Bytes.{RowFits}
 use Rattle.text.specs.Word.{word}
 use Rattle.text.specs.Decimal.{decimal, signed}

@@ -9,12 +9,12 @@ use lib.ListN.{length, List·getD-eq-default}
 use lib.Seq.{ext-getD}
 use Rattle.arrays.specs.Filled as filled
 use Rattle.table.specs.Refuse.{Only}
-use Rattle.tree.specs.Members.{In, at}
+use Rattle.arrays.specs.Members.{In, at}
 use Rattle.tree.specs.Count.{Count}
 use Rattle.tree.specs.Path.{Sum}
 use Rattle.tree.specs.Net.{Net, firstEnd, secondEnd, lengthOf}
 use Rattle.tree.specs.Rooted.{Rooted}
-use Rattle.tree.proofs.Members.{in-left, in-right, in-either}
+use Rattle.arrays.proofs.Members.{in-left, in-right, in-either}
 use Rattle.tree.proofs.OnePath.{unique}
 use Rattle.tree.proofs.RingExactly.{once}
 use Rattle.tree.proofs.Counts.{count-same, count-unique, count-some}

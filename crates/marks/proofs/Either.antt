@@ -4,10 +4,10 @@ use mathlib.Core.List.{List, [], _∷_}
 use Prim.Native.Nat.{ℕ, _+_, _-_, _<_}
 use native.Mathlib.Decide.{ℕ-discrete}
 use native.Mathlib.Omega.{arith}
-use Rattle.table.specs.Refuse.{Unless, refused, passed}
-use Rattle.tree.specs.Members.{In, at, past}
+use Rattle.table.proofs.Refusals.{unless-alike}
+use Rattle.arrays.specs.Members.{In, at, past}
 use Rattle.tree.specs.Path.{Sum}
-use Rattle.tree.specs.Net.{firstEnd, secondEnd, lengthOf, TwoNodes}
+use Rattle.tree.specs.Net.{firstEnd, secondEnd, lengthOf}
 use Rattle.tree.proofs.Flip.{flip}
 use Rattle.tree.proofs.Counts.{count-same}
 use Rattle.marks.specs.Change.{Outcome, Done}
@@ -43,9 +43,6 @@ module _ {s : List ℕ} {n a b : ℕ} where
   some-flip : {before : List ℕ} → SomeFree s before n a b → SomeFree s before n b a
   some-flip h = record { row = h .row; taken = taken-flip (h .row) (h .taken) }
 
-pub nodes-flip : {n a b : ℕ} → TwoNodes n a b → TwoNodes n b a
-nodes-flip t = record { first = t .second; second = t .first; apart = λ e. t .apart (omega (arith, e)) }
-
 done-alike : {P Q : ℕ → Type 0} {m : ℕ} {before : List ℕ} {o : Outcome} → ((r : ℕ) → P r → Q r) → ((r : ℕ) → Q r → P r) → Done P m before o → Done Q m before o
 done-alike to fro d = record {
   is = d .is;
@@ -56,10 +53,6 @@ done-alike to fro d = record {
     count = count-same to fro (d .marks .count);
   };
 }
-
-pub unless-alike : {no o : Outcome} {Ok Ok′ : Type 0} {rest rest′ : Outcome → Type 0} → (Ok → Ok′) → (Ok′ → Ok) → (rest o → rest′ o) → Unless Outcome no Ok rest o → Unless Outcome no Ok′ rest′ o
-unless-alike to fro f (refused n) = refused (λ k. n (fro k))
-unless-alike to fro f (passed k p) = passed (to k) (f p)
 
 pub ended-flip : {s before : List ℕ} {n bound run a b : ℕ} {o : Outcome} → Ended s n bound before run a b o → Ended s n bound before run b a o
 ended-flip = unless-alike reach-flip reach-flip (unless-alike some-flip some-flip (done-alike taken-flip taken-flip))

@@ -9,9 +9,9 @@ use native.Mathlib.Omega.{arith}
 use lib.ListN.{length, set, length-set}
 use lib.Seq.{getD-set-same, getD-set-other}
 use Rattle.arrays.specs.Filled as filled
-use Rattle.tree.specs.Members.{In, at, past, Distinct}
+use Rattle.arrays.specs.Members.{In, at, past, Distinct}
 use Rattle.tree.specs.Count.{Count}
-use Rattle.tree.proofs.Members.{in?, not-nil, in-left, in-right, in-either}
+use Rattle.arrays.proofs.Members.{in?, not-nil, in-one, in-left, in-right, in-either}
 use Rattle.tree.proofs.Counts.{count-same, count-none, count-one, count-add}
 use Rattle.marks.specs.Mark.{Free}
 use Rattle.marks.specs.Work.{one-free, Frees, Held, Takes}
@@ -22,10 +22,6 @@ mark l r = filled.at l r
 -- One row more
 pub held-none : (m : ℕ) (before : List ℕ) → Held [] m before before
 held-none m before = record { same-many = refl; becomes = λ r i. absurd (not-nil i); stays = λ r n. refl }
-
-in-end : {q r : ℕ} → In q (r ∷ []) → q ≡ r
-in-end (at e) = e
-in-end (past i) = absurd (not-nil i)
 
 module _ {done : List ℕ} {m r : ℕ} {before now next : List ℕ} (held : Held done m before now) (some : m ≢ 0) (fits : r < length now) (takes : Takes r m now next) where
   held-more : Dec (Free (mark now r)) → Held (done ++ (r ∷ [])) m before next
@@ -40,7 +36,9 @@ module _ {done : List ℕ} {m r : ℕ} {before now next : List ℕ} (held : Held
 
       new : (q : ℕ) → In q (done ++ (r ∷ [])) → Free (mark before q) → Dec (q ≡ r) → mark (set now r m) q ≡ m
       new q i g (yes e) = rw e (getD-set-same now r m 0 fits)
-      new q i g (no d) = getD-set-other now r q m 0 d ∙ held .becomes q (⊎-elim (λ j. j) (λ j. absurd (d (in-end j))) (in-either done i)) g
+      new q i g (no d) =
+          getD-set-other now r q m 0 d
+          ∙ held .becomes q (⊎-elim (λ j. j) (λ j. absurd (d (in-one j))) (in-either done i)) g
 
       old : (q : ℕ) → (In q (done ++ (r ∷ [])) → Free (mark before q) → ⊥) → Dec (q ≡ r) → mark (set now r m) q ≡ mark before q
       old q n (yes e) = absurd (n (in-right done (at e)) (rw e was))
@@ -57,7 +55,7 @@ module _ {done : List ℕ} {m r : ℕ} {before now next : List ℕ} (held : Held
 
       new : (q : ℕ) → In q done ⊎ In q (r ∷ []) → Free (mark before q) → mark now q ≡ m
       new q (inl i) g = held .becomes q i g
-      new q (inr i) g = again q (in-end i) g (in? q done)
+      new q (inr i) g = again q (in-one i) g (in? q done)
 
   pub held-step : Held (done ++ (r ∷ [])) m before next
   held-step = held-more (ℕ-discrete (mark now r) 0)

@@ -1,10 +1,9 @@
 -- Each promise of this crate allows one outcome: along the list of refusals, and a change leaves one list of marks and
 -- one count. And an outcome is that of one answer.
 use mathlib.Core.Path.{_≡_, ap}
-use mathlib.Core.Bool.{cond}
+use mathlib.Core.Bool.{true≢false, false≢true}
 use mathlib.Core.List.{List}
 use Prim.Native.Nat.{ℕ}
-use native.Mathlib.Omega.{arith}
 use Rattle.table.specs.Refuse.{Only}
 use Rattle.table.proofs.Refusals.{unless-only}
 use Rattle.tree.proofs.Begins.{begins-only}
@@ -31,10 +30,8 @@ claim-only s before run a b =
 pub change-one : (x y : Change) (l m : List ℕ) → outcome x l ≡ outcome y m → x ≡ y
 change-one (Changed k) (Changed j) l m e = λ i. Changed (e i .count)
 change-one (Changed k) (Refused w) l m e =
-    let f : _≡_ {A = ℕ} 0 1 = ap (λ (o : Outcome). cond (o .refused) 1 0) e in
-    absurd (omega (arith, f))
+    absurd (false≢true (ap (λ (o : Outcome). o .refused) e))
 change-one (Refused w) (Changed k) l m e =
-    let f : _≡_ {A = ℕ} 1 0 = ap (λ (o : Outcome). cond (o .refused) 1 0) e in
-    absurd (omega (arith, f))
+    absurd (true≢false (ap (λ (o : Outcome). o .refused) e))
 change-one (Refused w) (Refused v) l m e =
     λ i. Refused (record { number = e i .number; row = e i .row; ring = e i .ring })

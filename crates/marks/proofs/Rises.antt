@@ -6,12 +6,13 @@ use mathlib.Core.List.{List, [], _∷_, _++_, append-assoc, append-nil}
 use Prim.Native.Nat.{ℕ, _+_, _≤_, _<_}
 use native.Mathlib.Omega.{arith}
 use lib.ListN.{length}
-use Rattle.tree.specs.Members.{In, at, past}
+use Rattle.arrays.specs.Members.{In, at, past}
 use Rattle.tree.specs.Graph.{stop}
 use Rattle.tree.specs.Path.{Sum, Path}
 use Rattle.tree.specs.Rooted.{Above, self, up, Rooted}
-use Rattle.tree.proofs.Members.{not-nil, in-left, in-right, in-either}
-use Rattle.tree.proofs.Rooted.{path-up, path-down, sum-snoc, above-place}
+use Rattle.arrays.proofs.Members.{not-nil, in-one, in-left, in-right, in-either}
+use Rattle.tree.proofs.Above.{place-rises}
+use Rattle.tree.proofs.Rooted.{path-up, path-down, sum-snoc}
 use Rattle.tree.proofs.Above.{above-trans}
 use Rattle.marks.specs.Work as work
 use Rattle.marks.specs.Work.{Rise}
@@ -67,7 +68,13 @@ module _ {u v : ℕ → ℕ} {k n : ℕ} {par row place : ℕ → ℕ} (R : Root
       down (two-rises bx (rw e at (R .par-fits y by z)) h j (λ w a b m. n w a (up z e b) m))
     where
       below : y ≢ t
-      below q = omega (arith, above-place u v R (rw e at (R .par-fits y by z)) (rise-above j), rw e at (R .earlier y by z), ap place q)
+      below q =
+          omega (
+            arith,
+            place-rises (R .par-fits) (R .earlier) (rw e at (R .par-fits y by z)) (rise-above j),
+            rw e at (R .earlier y by z),
+            ap place q,
+          )
 
       out : ¬ Above par y x
       out = n y (up z e (rise-above j)) self below
@@ -79,15 +86,12 @@ module _ {u v : ℕ → ℕ} {k n : ℕ} {par row place : ℕ → ℕ} (R : Root
       down w = record {
         rows = w .rows ++ (row y ∷ []);
         path = path-down u v R y by z out (put (w .path));
-        only = λ r i. ⊎-elim (λ a. ⊎-elim inl (λ d. inr (past d)) (w .only r a)) (λ a. inr (last r a)) (in-either (w .rows) i);
+        only = λ r i. ⊎-elim (λ a. ⊎-elim inl (λ d. inr (past d)) (w .only r a)) (λ a. inr (at (in-one a)))
+            (in-either (w .rows) i);
         all = λ r i. ⊎-elim (λ a. in-left (row y ∷ []) (w .all r (inl a))) (λ a. first r a) i;
         sum = λ f. sum-snoc f (w .rows) (row y) ∙ omega (arith, w .sum f);
       }
         where
-          last : (r : ℕ) → In r (row y ∷ []) → In r (row y ∷ downs)
-          last r (at q) = at q
-          last r (past i) = absurd (not-nil i)
-
           first : (r : ℕ) → In r (row y ∷ downs) → In r (w .rows ++ (row y ∷ []))
           first r (at q) = in-right (w .rows) (at q)
           first r (past i) = in-left (row y ∷ []) (w .all r (inr i))

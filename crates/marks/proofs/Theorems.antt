@@ -1,7 +1,7 @@
 -- What a reader of demand 2 looks for: claim, commit and abort change exactly the marks named, and a claim's two nodes
 -- may stand in either order. Each is read off the promises; an outcome with number 0 is one in which nothing was
 -- refused.
-use mathlib.Core.Path.{_≡_, sym, ap, _∙_}
+use mathlib.Core.Path.{_≡_, sym, _∙_}
 use mathlib.Core.Logic.{_≢_}
 use mathlib.Core.List.{List}
 use Prim.Native.Nat.{ℕ}
@@ -10,20 +10,21 @@ use native.Mathlib.Omega.{arith}
 use lib.Seq.{ext-getD}
 use Rattle.arrays.specs.Filled.{at}
 use Rattle.table.specs.Header.{nodesOf}
-use Rattle.table.proofs.Refusals.{past, unless-map}
+use Rattle.table.proofs.Refusals.{past, unless-map, unless-alike, not-refused}
 use Rattle.tree.proofs.Begins.{begins-past, begins-map}
+use Rattle.tree.proofs.Flip.{two-flip}
 use Rattle.tree.proofs.Counts.{count-none, count-unique}
 use Rattle.marks.specs.Mark.{free, spent, Free, HeldBy, RunNumber}
 use Rattle.marks.specs.Change.{Outcome, refusal, Changes, Settles, Commits, Aborts}
 use Rattle.marks.specs.Claim.{Taken, Claims}
-use Rattle.marks.proofs.Either.{nodes-flip, unless-alike, ended-flip}
+use Rattle.marks.proofs.Either.{ended-flip}
 
 -- nothing was refused
 abbrev Good : Outcome → Type 0
 Good o = o .number ≡ 0
 
 plain : (before : List ℕ) {o : Outcome} → Good o → (k r g : ℕ) → (k ≡ 0 → ⊥) → refusal before k r g ≡ o → ⊥
-plain before good k r g n e = n (ap (λ (x : Outcome). x .number) e ∙ good)
+plain before good k r g = not-refused (λ (x : Outcome). x .number) good
 
 module _ (s before : List ℕ) {o : Outcome} (good : Good o) where
   -- a commit or an abort that is not refused: a run's number, and what it holds, no more and no less, has the new mark
@@ -64,8 +65,8 @@ module _ (s before : List ℕ) {o : Outcome} (good : Good o) where
 pub claim-either : (s before : List ℕ) {run a b : ℕ} {o : Outcome} → Claims s before run a b o
     → Claims s before run b a o
 claim-either s before p =
-    begins-map (refusal before) s
-    (λ _. unless-map (λ o. o) (λ _. unless-map (λ o. o) (λ _. unless-alike nodes-flip nodes-flip ended-flip))) p
+    begins-map (λ o. o) (refusal before) s
+    (λ _. unless-map (λ o. o) (λ _. unless-map (λ o. o) (λ _. unless-alike two-flip two-flip ended-flip))) p
 
 -- AFTER CLAIM THEN ABORT of a run that held nothing before, the marks are as they were
 pub claim-abort : (s before : List ℕ) {run a b : ℕ} {o q : Outcome} → Good o → Good q

@@ -5,7 +5,7 @@ use mathlib.Core.List.{List, [], _∷_}
 use Prim.Native.Nat.{ℕ, zero, suc, _-_, _/_, _≤_, _<_}
 use lib.ListN.{length, set}
 use Rattle.arrays.specs.Filled.{at}
-use Rattle.tree.specs.Members.{In}
+use Rattle.arrays.specs.Members.{In}
 use Rattle.tree.specs.Path.{Sum}
 use Rattle.tree.specs.Rooted.{Rooted}
 use Rattle.tree.specs.Walked.{Walked}

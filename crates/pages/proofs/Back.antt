@@ -10,7 +10,8 @@ use mir.Syntax.{w64}
 use mir.Val.{toZ, ofZ}
 use mir.ValLaws.{toZ-ofZ, ofZ-fits}
 use Rattle.table.specs.Bytes.{u16At, u32At}
-use Rattle.pages.specs.Listing.{Entry, In, at, past}
+use Rattle.arrays.specs.Members.{In, at, past}
+use Rattle.pages.specs.Listing.{Entry}
 use Rattle.pages.specs.Bytes.{bytes, row, rows, u64At, entryAt, entries, RowFits}
 use Rattle.pages.proofs.Rows.{row-length}
 

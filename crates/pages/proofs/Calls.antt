@@ -6,11 +6,12 @@ use native.Mathlib.Omega.{arith}
 use lib.ListN.{length, take, drop, length-append, take-append-drop}
 use lib.Seq.{take-append-seam}
 use Rattle.table.specs.Bytes.{u16At}
-use Rattle.pages.specs.Listing.{Entry, In, at}
+use Rattle.arrays.specs.Members.{In, at}
+use Rattle.pages.specs.Listing.{Entry}
 use Rattle.pages.specs.Page.{PagesFrom, ends, goes}
 use Rattle.pages.specs.Bytes.{row, rows}
 use Rattle.pages.specs.Calls.{Paged, Calls, done, again}
-use Rattle.pages.proofs.Members.{in-left, in-right}
+use Rattle.arrays.proofs.Members.{in-left, in-right}
 use Rattle.pages.proofs.Pages.{page-full, next-fewer, snoc}
 use Rattle.pages.proofs.Rows.{rows-length, rows-end}
 use Rattle.pages.proofs.Back.{low-back, high-back}

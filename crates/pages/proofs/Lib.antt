@@ -1,9 +1,9 @@
 -- Laws and theorems by topic. Demand 3 stands in Demand3.
 pub mod Demand3
 pub mod Order
-pub mod Members
 pub mod Rising
 pub mod Listings
+pub mod Qualifying
 pub mod Pages
 pub mod Rows
 pub mod Back

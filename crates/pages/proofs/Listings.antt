@@ -2,8 +2,9 @@
 use mathlib.Core.Path.{_≡_}
 use mathlib.Core.Logic.{_⊎_, inl, inr}
 use mathlib.Core.List.{List, [], _∷_, _++_}
-use Rattle.pages.specs.Listing.{Entry, Before, In, at, none, more, Listing}
-use Rattle.pages.proofs.Members.{not-nil, in-one, in-left, in-right, in-split}
+use Rattle.arrays.specs.Members.{In, at}
+use Rattle.pages.specs.Listing.{Entry, Before, none, more, Listing}
+use Rattle.arrays.proofs.Members.{not-nil, in-one, in-left, in-right, in-either}
 use Rattle.pages.proofs.Rising.{rising-join, same-list}
 
 pub listing-only : {P : Entry → Type 0} {l m : List Entry} → Listing P l → Listing P m → l ≡ m
@@ -22,7 +23,7 @@ pub listing-join : {X Y Z : Entry → Type 0} {l m : List Entry} → Listing X l
     → ((x : Entry) → X x → Z x) → ((x : Entry) → Y x → Z x) → ((x : Entry) → Z x → X x ⊎ Y x) → Listing Z (l ++ m)
 listing-join {X} {Y} {Z} {l} {m} a b before left right down = record {
   rising = rising-join l (a .rising) (b .rising) (λ x y h k. before x y (a .sound x h) (b .sound y k));
-  sound = λ x h. side x (in-split l m h);
+  sound = λ x h. side x (in-either l h);
   complete = λ x z. back x (down x z);
 }
   where

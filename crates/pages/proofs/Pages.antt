@@ -7,10 +7,11 @@ use native.Mathlib.Omega.{arith}
 use native.Mathlib.Decide.{decLt}
 use lib.ListN.{length, take, drop, take-append-drop, length-drop, length-take}
 use lib.Seq.{take-all}
-use Rattle.pages.specs.Listing.{Entry, Before, In, at, past, Listing}
+use Rattle.arrays.specs.Members.{In, at, past}
+use Rattle.pages.specs.Listing.{Entry, Before, Listing}
 use Rattle.pages.specs.Page.{Following, Page, PagesFrom, ends, goes}
 use Rattle.pages.proofs.Order.{after-trans, after-self, after-both, after-start}
-use Rattle.pages.proofs.Members.{in-one, in-left, in-right, in-split}
+use Rattle.arrays.proofs.Members.{in-one, in-left, in-right, in-either}
 use Rattle.pages.proofs.Rising.{rising-right, rising-left, rising-across}
 use Rattle.pages.proofs.Listings.{listing-only, listing-iff}
 
@@ -23,7 +24,8 @@ module _ {P : Entry → Type 0} {s t : ℕ} (front : List Entry) (e : Entry) (ba
   listing-back = record {
     rising = rising-right (front ++ e ∷ []) (w .rising);
     sound = λ x h. (w .sound x (in-right (front ++ e ∷ []) h) .0, rising-across (front ++ e ∷ []) back (w .rising) (in-right front (at refl)) h);
-    complete = λ x p. pick x (p .1) (in-split (front ++ e ∷ []) back (w .complete x (p .0, after-trans (w .sound e e-in .1) (p .1))));
+    complete = λ x p. pick x (p .1)
+        (in-either (front ++ e ∷ []) (w .complete x (p .0, after-trans (w .sound e e-in .1) (p .1))));
   }
     where
       upto : (x : Entry) → Before e x → In x front ⊎ In x (e ∷ []) → ⊥
@@ -31,7 +33,7 @@ module _ {P : Entry → Type 0} {s t : ℕ} (front : List Entry) (e : Entry) (ba
       upto x b (inr h) = after-self (rw (in-one h) at b)
 
       pick : (x : Entry) → Before e x → In x (front ++ e ∷ []) ⊎ In x back → In x back
-      pick x b (inl h) = absurd (upto x b (in-split front (e ∷ []) h))
+      pick x b (inl h) = absurd (upto x b (in-either front h))
       pick x b (inr h) = h
 
 in-some : {e : Entry} {l : List Entry} → In e l → 0 < length l

@@ -2,9 +2,10 @@
 use mathlib.Core.Path.{_≡_, refl, sym, _∙_}
 use mathlib.Core.Logic.{_⊎_, inl, inr}
 use mathlib.Core.List.{List, [], _∷_, _++_}
-use Rattle.pages.specs.Listing.{Entry, Before, In, at, past, Rising, none, more}
+use Rattle.arrays.specs.Members.{In, at, past}
+use Rattle.pages.specs.Listing.{Entry, Before, Rising, none, more}
 use Rattle.pages.proofs.Order.{after-self, after-both}
-use Rattle.pages.proofs.Members.{not-nil, in-cases, in-left, in-right, in-split}
+use Rattle.arrays.proofs.Members.{not-nil, in-cases, in-left, in-right, in-either}
 
 pub rising-head : {x : Entry} {l : List Entry} → Rising (x ∷ l) → (y : Entry) → In y l → Before x y
 rising-head (more f r) = f
@@ -26,7 +27,8 @@ rising-across (z ∷ l) m r (past h) k = rising-across l m (rising-tail r) h k
 
 pub rising-join : (l : List Entry) {m : List Entry} → Rising l → Rising m → ((x y : Entry) → In x l → In y m → Before x y) → Rising (l ++ m)
 rising-join [] r q f = q
-rising-join (x ∷ l) {m} r q f = more (λ y h. ahead y (in-split l m h)) (rising-join l (rising-tail r) q (λ y z h k. f y z (past h) k))
+rising-join (x ∷ l) {m} r q f =
+    more (λ y h. ahead y (in-either l h)) (rising-join l (rising-tail r) q (λ y z h k. f y z (past h) k))
   where
     ahead : (y : Entry) → In y l ⊎ In y m → Before x y
     ahead y (inl h) = rising-head r y h

@@ -13,17 +13,21 @@ use Rattle.pages.proofs.Lift.{lower-is}
 use Rattle.pages.proofs.Filling.{grown-none, grown-iff, grown-end}
 
 module _ {Within : ℕ → Type 0} {len wt : List ℕ} {u from floor : ℕ} where
-  here-up : (v : ℕ) (e : Entry) → Here Within len wt u from floor v e → Here Within len wt u from floor (v + 1) e
-  here-up v e h =
+  here-below : {v x : ℕ} {e : Entry} → e .high < x → Here Within len wt u from floor v e
+      → Here Within len wt u from floor x e
+  here-below l h =
       record {
         one = h .one;
         since = h .since;
-        upto = omega (arith, h .upto);
+        upto = l;
         reach = h .reach;
         load = h .load;
         short = h .short;
         heavy = h .heavy;
       }
+
+  here-up : (v : ℕ) (e : Entry) → Here Within len wt u from floor v e → Here Within len wt u from floor (v + 1) e
+  here-up v e h = here-below (omega (arith, h .upto)) h
 
   here-down : (v : ℕ) (e : Entry) → Here Within len wt u from floor (v + 1) e
       → Here Within len wt u from floor v e ⊎ (e .high ≡ v)
@@ -31,17 +35,7 @@ module _ {Within : ℕ → Type 0} {len wt : List ℕ} {u from floor : ℕ} wher
     where
       pick : Dec (e .high ≡ v) → Here Within len wt u from floor v e ⊎ (e .high ≡ v)
       pick (yes q) = inr q
-      pick (no q) =
-          inl
-          (record {
-            one = h .one;
-            since = h .since;
-            upto = omega (arith, h .upto);
-            reach = h .reach;
-            load = h .load;
-            short = h .short;
-            heavy = h .heavy;
-          })
+      pick (no q) = inl (here-below (omega (arith, h .upto)) h)
 
   here-is : (v : ℕ) (e : Entry) → Here Within len wt u from floor (v + 1) e → e .high ≡ v
       → e ≡ entry u v (at len v) (lower (at wt v))

@@ -3,6 +3,7 @@ use Prim.Native.Nat.{ℕ, _<_}
 use mathlib.Core.Path.{_≡_}
 use mathlib.Core.List.{List, [], _∷_}
 use lib.IntN.{ℤ}
+use Rattle.arrays.specs.Members.{In}
 
 -- a pair of nodes, lower first, with the length and the weight of the path between them
 pub record Entry : Type 0 where
@@ -21,10 +22,6 @@ pub data After (s t : ℕ) (e : Entry) : Type 0 where
 
 abbrev pub Before : Entry → Entry → Type 0
 Before x y = After (x .low) (x .high) y
-
-pub data In (x : Entry) : List Entry → Type 0 where
-  at : {y : Entry} {l : List Entry} → x ≡ y → In x (y ∷ l)
-  past : {y : Entry} {l : List Entry} → In x l → In x (y ∷ l)
 
 -- each entry comes before all that follow it
 pub data Rising : List Entry → Type 0 where

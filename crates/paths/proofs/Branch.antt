@@ -9,6 +9,7 @@ use Rattle.arrays.specs.Filled.{at}
 use Rattle.table.specs.Signed.{Diff, up}
 use Rattle.table.proofs.Lift.{diff, same, diff-only, sum}
 use Rattle.tree.specs.Rooted.{Above}
+use Rattle.tree.specs.Value.{Value}
 use Rattle.tree.proofs.Values.{value-none, value-down, value-up, value-nearer}
 use Rattle.paths.specs.Ground.{Ground}
 use Rattle.paths.specs.Work.{Far}
@@ -39,25 +40,26 @@ module _ {n : ℕ} {parent order place bl bw : List ℕ} (g : Ground n parent or
     weighed : Diff y 1000000 (g .heavy (g .row x))
     weighed = rw (ey) (g .weight-is x b z)
 
-    pub far-up : {l w i : ℕ} (l₁ w₁ : ℕ) → Above (at parent) x a → Far g a x l w i → l₁ ≡ l + f → w₁ + 1000000 ≡ w + y → Far g a (at parent x) l₁ w₁ (i + 1)
-    far-up l₁ w₁ h p el ew = record {
+    -- a branch further, wherever it leads
+    further : {c e l w i l₁ w₁ : ℕ} (p : Far g a c l w i) → l₁ ≡ l + f → w₁ + 1000000 ≡ w + y
+        → Value (g .u) (g .v) (g .k) (g .long) (g .heavy) a e (l + g .long (g .row x))
+        (p .weight +ℤ g .heavy (g .row x)) → Far g a e l₁ w₁ (i + 1)
+    further p el ew v = record {
       weight = p .weight +ℤ g .heavy (g .row x);
-      value = rw (el, measured) (value-up (g .u) (g .v) (g .rooted) x b z h (p .value));
+      value = rw (el, measured) v;
       lift = lift-add (p .lift) weighed ew;
       low = omega (arith, p .low, g .light x b z);
       high = omega (arith, p .high, g .light x b z);
       short = omega (arith, p .short, g .short x b z);
     }
 
-    pub far-down : {l w i : ℕ} (l₁ w₁ : ℕ) → ¬ Above (at parent) x a → Far g a (at parent x) l w i → l₁ ≡ l + f → w₁ + 1000000 ≡ w + y → Far g a x l₁ w₁ (i + 1)
-    far-down l₁ w₁ h p el ew = record {
-      weight = p .weight +ℤ g .heavy (g .row x);
-      value = rw (el, measured) (value-down (g .u) (g .v) (g .rooted) x b z h (p .value));
-      lift = lift-add (p .lift) weighed ew;
-      low = omega (arith, p .low, g .light x b z);
-      high = omega (arith, p .high, g .light x b z);
-      short = omega (arith, p .short, g .short x b z);
-    }
+    pub far-up : {l w i : ℕ} (l₁ w₁ : ℕ) → Above (at parent) x a → Far g a x l w i
+        → l₁ ≡ l + f → w₁ + 1000000 ≡ w + y → Far g a (at parent x) l₁ w₁ (i + 1)
+    far-up l₁ w₁ h p el ew = further p el ew (value-up (g .u) (g .v) (g .rooted) x b z h (p .value))
+
+    pub far-down : {l w i : ℕ} (l₁ w₁ : ℕ) → ¬ Above (at parent) x a → Far g a (at parent x) l w i
+        → l₁ ≡ l + f → w₁ + 1000000 ≡ w + y → Far g a x l₁ w₁ (i + 1)
+    far-down l₁ w₁ h p el ew = further p el ew (value-down (g .u) (g .v) (g .rooted) x b z h (p .value))
 
     pub far-nearer : {l w i : ℕ} (l₁ w₁ : ℕ) → a < n → Above (at parent) x a → Far g a (at parent x) l w i → l₁ + f ≡ l → w₁ + y ≡ w + 1000000 → Far g a x l₁ w₁ (i + 1)
     far-nearer l₁ w₁ ba h p el ew =

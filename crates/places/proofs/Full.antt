@@ -7,9 +7,9 @@ use native.Mathlib.Omega.{arith}
 use native.Mathlib.Numerals.{add-one}
 use native.Mathlib.Decide.{ℕ-discrete}
 use lib.ListN.{length}
-use Rattle.tree.specs.Members.{In, at, past, Distinct}
+use Rattle.arrays.specs.Members.{In, at, past, Distinct}
 use Rattle.tree.specs.Count.{Count}
-use Rattle.tree.proofs.Members.{not-nil, in?}
+use Rattle.arrays.proofs.Members.{not-nil, in?}
 use Rattle.tree.proofs.Counts.{distinct-le, count-none, count-one, count-add}
 
 module _ (f : ℕ → ℕ) where

@@ -6,15 +6,13 @@ use mathlib.Core.Logic.{_⊎_, inl, inr}
 use mathlib.Core.List.{List}
 use native.Mathlib.Omega.{arith}
 use lib.IntN.{ℤ}
-use Rattle.table.specs.Signed.{Diff}
-use Rattle.table.proofs.Lift.{lift-only}
+use Rattle.table.proofs.Lift.{lift-only, equally}
 use Rattle.tree.specs.Value.{Value}
 use Rattle.paths.specs.Ground.{Ground}
 use Rattle.paths.proofs.Single.{one-value}
 use Rattle.lists.specs.Pairs.{best4, Le}
 use Rattle.lists.specs.declared.across.Best.{Best}
 use Rattle.lists.proofs.Order.{le-antisym}
-use Rattle.runs.specs.Lift.{lift}
 use Rattle.places.specs.BestPair.{Carried, BestPair}
 
 -- wherever a pair has one length and one weight
@@ -24,13 +22,10 @@ module _ (Value : ℕ → ℕ → ℕ → ℤ → Type 0) (n : ℕ)
   carried-one {x} {y} {a} {b} p q =
       let e = single x y (p .l) (q .l) (p .w) (q .w) (p .value) (q .value) in
       let l : a .length ≡ b .length = omega (arith, p .length, q .length, e .0) in
-      let w : a .weight ≡ b .weight = one (e .1) (p .weight) (q .weight) in
+      let w : a .weight ≡ b .weight = lift-only (equally (sym (e .1)) (p .weight)) (q .weight) in
       let c : a .low ≡ b .low = p .low ∙ sym (q .low) in
       let d : a .high ≡ b .high = p .high ∙ sym (q .high) in
       λ i. record { weight = w i; length = l i; low = c i; high = d i }
-    where
-      one : {c d : ℕ} {y z : ℤ} → y ≡ z → Diff c lift y → Diff d lift z → c ≡ d
-      one e h k = lift-only (rw e at h) k
 
   module _ (Within : ℕ → Type 0) where
     -- a pair that is found is beaten by any other outcome

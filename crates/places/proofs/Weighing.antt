@@ -10,8 +10,8 @@ use lib.IntN.{ℤ, subℕ, _+ℤ_}
 use lib.ListN.{length}
 use Rattle.arrays.specs.Filled.{at}
 use Rattle.table.specs.Signed.{Diff}
-use Rattle.table.proofs.Lift.{diff, same, sum, lift-only}
-use Rattle.tree.specs.Members.{In}
+use Rattle.table.proofs.Lift.{diff, same, sum, lift-only, equally}
+use Rattle.arrays.specs.Members.{In}
 use Rattle.tree.specs.Graph.{Walk, stop, go}
 use Rattle.tree.specs.Path.{Sum}
 use Rattle.tree.specs.Rooted.{Above, self, up}
@@ -43,9 +43,6 @@ sides {a} {b} {c} {d} {z} p q =
 as-many : {u v : ℕ → ℕ} {P : ℕ → Type 0} {a b : ℕ} {rs ns : List ℕ} → Walk u v P a rs ns b → Sum (λ r. 1) rs ≡ length ns
 as-many stop = refl
 as-many (go h e w) = omega (arith, as-many w)
-
-equally : {a b : ℕ} {y z : ℤ} → y ≡ z → Diff a b z → Diff a b y
-equally e h = rw e h
 
 module _ {n : ℕ} {parent order place bl bw : List ℕ} (g : Ground n parent order place bl bw) (d w : List ℕ)
     (P : Paths g 0 d w) where

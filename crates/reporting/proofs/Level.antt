@@ -8,6 +8,7 @@ use Rattle.table.specs.Header.{nodesOf, boundOf}
 use Rattle.pages.specs.Listing.{Entry, Listing}
 use Rattle.pages.specs.Passes.{Passes}
 use Rattle.pages.proofs.Listings.{listing-iff}
+use Rattle.pages.proofs.Qualifying.{passes-map}
 use Rattle.answers.specs.PathOf.{PathOf}
 use Rattle.answers.specs.Heaviest.{Heaviest}
 use Rattle.answers.proofs.HeaviestOnly.{level}
@@ -21,27 +22,12 @@ module _ (s marks : List ℕ) (e : Entry) (best : Heaviest (InReach s marks) e) 
   only-level : (f : Entry) → Counted s marks (e .weight) f → Same f
   unfolding Same
   only-level f p =
-      record {
-        pair = p .pair;
-        node = p .node;
-        path = p .path;
-        short = p .short;
-        heavy = level (f .weight) (e .weight)
-            (best .best f
-            (record { pair = p .pair; node = p .node; path = p .path; short = p .short; heavy = tt }) .weight)
-            (p .heavy);
-      }
+      passes-map (λ q. q) (λ q. q)
+      (level (f .weight) (e .weight) (best .best f (passes-map (λ q. q) (λ q. q) (λ _. tt) p) .weight)) p
 
   level-too : (f : Entry) → Same f → Counted s marks (e .weight) f
   unfolding Same
-  level-too f p =
-      record {
-        pair = p .pair;
-        node = p .node;
-        path = p .path;
-        short = p .short;
-        heavy = rw (p .heavy) (≤ℤ-refl (e .weight));
-      }
+  level-too f p = passes-map (λ q. q) (λ q. q) (λ h. rw h (≤ℤ-refl (e .weight))) p
 
   pub same-weight : {l : List Entry} → Listing (Counted s marks (e .weight)) l
       → Listing (Passes (PathOf s marks (nodesOf s)) (λ l. l ≤ boundOf s) (λ w. w ≡ e .weight) (nodesOf s)) l

@@ -9,11 +9,12 @@ use lib.IntN.{ℤ, pos}
 use lib.ListN.{length, drop, length-append, length-take, take-append-drop}
 use lib.Seq.{take-all}
 use Rattle.table.specs.Bytes.{u16At}
-use Rattle.pages.specs.Listing.{Entry, entry, Listing, In}
+use Rattle.arrays.specs.Members.{In}
+use Rattle.pages.specs.Listing.{Entry, entry, Listing}
 use Rattle.pages.specs.Page.{Following}
 use Rattle.pages.specs.Calls.{Paged, done, again}
 use Rattle.pages.specs.Bytes.{rows, entryAt, entries, RowFits}
-use Rattle.pages.proofs.Members.{in-left}
+use Rattle.arrays.proofs.Members.{in-left}
 use Rattle.pages.proofs.Listings.{listing-only}
 use Rattle.pages.proofs.Rows.{rows-length}
 use Rattle.pages.proofs.Back.{rows-back, entries-next}

@@ -1,42 +1,32 @@
 -- The keys and lists of one item.
 use Prim.Native.Nat.{ℕ, _+_, _*_, _^_, _≤_, _<_}
-use mathlib.Core.Path.{_≡_, refl, _∙_}
+use mathlib.Core.Path.{_≡_, _∙_}
 use mathlib.Core.Bool.{true, false, true≢false, false≢true}
 use mathlib.Core.List.{List}
 use native.Mathlib.Omega.{arith}
-use native.Mathlib.Decide.{ℕ-discrete, decLt}
-use lib.ListN.{length, set, length-set, replicate, length-replicate, getD-replicate}
-use lib.Seq.{getD-set-same, getD-set-other}
+use native.Mathlib.Decide.{decLt}
+use lib.ListN.{length, set, replicate, length-replicate, getD-replicate}
+use lib.Seq.{getD-set-same}
 use Rattle.arrays.specs.Filled.{at}
 use Rattle.lists.specs.Runs.{In, Copied}
 use Rattle.lists.specs.Pairs.{Small}
+use Rattle.lists.proofs.Copying.{kept-none, kept-more, each-more}
 use Rattle.runs.specs.Lift.{lift, Low, World}
 use Rattle.runs.specs.Items.{Owned}
 use Rattle.runs.specs.Listed.{Sizes, Framed, Listed, Alone, Raised, Lone}
-use Rattle.runs.proofs.Frames.{kept-none}
 
 pub alone-set : (s : ℕ) (l : List ℕ) → s < length l → Alone s l (set l s s)
-alone-set s l h = record {
-  is = getD-set-same l s s 0 h;
-  kept = record { long = length-set l s s; before = λ k x. getD-set-other l s k s 0 (omega arith); after = λ k x. getD-set-other l s k s 0 (omega arith) };
-}
+alone-set s l h = record { is = getD-set-same l s s 0 h; kept = kept-more s (omega arith) kept-none }
 
 pub raised-none : (f l : List ℕ) (p s : ℕ) → Raised f p s s l l
-raised-none f l p s = record { done = λ k x y. absurd (omega arith); kept = record { long = refl; before = λ k x. refl; after = λ k x. refl } }
+raised-none f l p s = record { done = λ k x y. absurd (omega arith); kept = kept-none }
 
-pub raised-more : (f l m : List ℕ) (p s k v : ℕ) → s ≤ k → k < length m → v + 2 * at f p ≡ lift + at f k → Raised f p s k l m → Raised f p s (k + 1) l (set m k v)
+pub raised-more : (f l m : List ℕ) (p s k v : ℕ) → s ≤ k → k < length m → v + 2 * at f p ≡ lift + at f k
+    → Raised f p s k l m → Raised f p s (k + 1) l (set m k v)
 raised-more f l m p s k v a b q h = record {
-  done = λ z x y. done z x y (ℕ-discrete z k);
-  kept = record {
-    long = length-set m k v ∙ h .kept .long;
-    before = λ z x. getD-set-other m k z v 0 (omega arith) ∙ h .kept .before z x;
-    after = λ z x. getD-set-other m k z v 0 (omega arith) ∙ h .kept .after z (omega arith);
-  };
+  done = each-more (λ z x. x + 2 * at f p ≡ lift + at f z) m s k v b q (h .done);
+  kept = kept-more v a (h .kept);
 }
-  where
-    done : (z : ℕ) → s ≤ z → z < k + 1 → Dec (z ≡ k) → at (set m k v) z + 2 * at f p ≡ lift + at f z
-    done z x y (yes e) = rw (e, getD-set-same m k v 0 b) q
-    done z x y (no n) = rw (getD-set-other m k z v 0 n) (h .done z x (omega arith))
 
 pub raised-small : (f : List ℕ) (p s e : ℕ) (l m : List ℕ) → Low f → e ≤ 4096 → Raised f p s e l m → Small l → Small m
 raised-small f p s e l m o b h g = record { small = λ x n. small x n (decLt x s) (decLt x e) }

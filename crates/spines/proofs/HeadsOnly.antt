@@ -2,7 +2,7 @@
 -- outcome is that of one answer.
 use Prim.Native.Nat.{ℕ, _-_}
 use mathlib.Core.Path.{_≡_, refl, sym, ap, _∙_}
-use mathlib.Core.Bool.{cond}
+use mathlib.Core.Bool.{true≢false, false≢true}
 use mathlib.Core.List.{List}
 use native.Mathlib.Omega.{arith}
 use lib.ListN.{length}
@@ -48,10 +48,8 @@ heads-only s before = begins-net-only (refusal before) s (λ t. unless-only (hea
 pub heads-answer-one : (x y : HeadsAnswer) (l m : List ℕ) → outcome x l ≡ outcome y m → x ≡ y
 heads-answer-one Written Written l m e = refl
 heads-answer-one Written (Refused w) l m e =
-    let f : _≡_ {A = ℕ} 0 1 = ap (λ (o : Outcome). cond (o .refused) 1 0) e in
-    absurd (omega (arith, f))
+    absurd (false≢true (ap (λ (o : Outcome). o .refused) e))
 heads-answer-one (Refused w) Written l m e =
-    let f : _≡_ {A = ℕ} 1 0 = ap (λ (o : Outcome). cond (o .refused) 1 0) e in
-    absurd (omega (arith, f))
+    absurd (true≢false (ap (λ (o : Outcome). o .refused) e))
 heads-answer-one (Refused w) (Refused v) l m e =
     λ i. Refused (record { number = e i .number; row = e i .row; ring = e i .ring })

@@ -4,10 +4,10 @@ use mathlib.Core.Path.{_≡_, refl, sym, ap, _∙_}
 use mathlib.Core.Logic.{_⊎_, inl, inr, _≢_, ⊎-elim}
 use mathlib.Core.List.{List, [], _∷_, _++_}
 use native.Mathlib.Omega.{arith}
-use Rattle.tree.specs.Members.{In}
+use Rattle.arrays.specs.Members.{In}
 use Rattle.tree.specs.Graph.{Ends, Forest}
 use Rattle.tree.specs.Rooted.{Above, self, up, Rooted}
-use Rattle.tree.proofs.Members.{distinct-snoc}
+use Rattle.arrays.proofs.Members.{distinct-snoc}
 use Rattle.tree.proofs.Rows.{ends-flip, other}
 use Rattle.tree.proofs.Joined.{walk-snoc}
 use lib.ListN.{length, getD, length-append}

@@ -1,7 +1,7 @@
 -- Hops: the number of different spines that a path touches. And the floor of a binary logarithm, which bounds them.
 use Prim.Native.Nat.{ℕ, _+_, _^_, _≤_, _<_}
 use mathlib.Core.List.{List, _∷_}
-use Rattle.tree.specs.Members.{In, Distinct}
+use Rattle.arrays.specs.Members.{In, Distinct}
 use Rattle.tree.specs.Graph.{First, Walk}
 use Rattle.tree.specs.Count.{Count}
 use Rattle.spines.specs.Spine.{ChildOf, Head}

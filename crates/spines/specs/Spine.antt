@@ -2,7 +2,7 @@
 use Prim.Native.Nat.{ℕ, _≤_, _<_}
 use mathlib.Core.Path.{_≡_}
 use mathlib.Core.List.{List, _∷_}
-use Rattle.tree.specs.Members.{In, Distinct}
+use Rattle.arrays.specs.Members.{In, Distinct}
 use Rattle.tree.specs.Graph.{First, Ends, Walk}
 use Rattle.tree.specs.Count.{Count}
 

@@ -1,12 +1,12 @@
--- What a table that passed has, for this crate and those above: an opened header's facts, an accepted table's facts, and how an operation that begins
--- with `examine` goes on where nothing is refused.
+-- What a table that passed has, for this crate and those above: an opened header's facts, an accepted table's facts,
+-- and how an operation that begins with `examine` goes on where nothing is refused.
 use mathlib.Core.Path.{_≡_, refl, sym, ap, _∙_}
 use mathlib.Core.List.{List, [], _∷_}
 use Prim.Native.Nat.{ℕ, _+_, _-_, _*_, _≤_, _<_}
 use native.Mathlib.Omega.{arith}
 use lib.ListN.{length, take}
 use native.Mathlib.Nat.{sub-zero}
-use Rattle.table.specs.Refuse.{passed, fine, Only}
+use Rattle.table.specs.Refuse.{refused, passed, fine, Only}
 use Rattle.table.specs.Bytes.{byteAt}
 use Rattle.table.specs.Signed.{Within}
 use Rattle.table.specs.Header.{Header, Lettered, versionOf, nodesOf, boundOf}
@@ -16,7 +16,16 @@ use Rattle.table.specs.Outcome.{Outcome, outcome, refusal, found, Opens,
 use Rattle.table.specs.declared.Row.{Row}
 use Rattle.table.specs.declared.Refusal.{Refusal}
 use Rattle.table.specs.declared.Opening.the-variants.{Opened, Refused}
-use Rattle.table.proofs.Refusals.{past, past-rows, settled, settled-rows, unless-only, unless-map, first-bad-map}
+use Rattle.table.proofs.Refusals.{
+  past,
+  past-rows,
+  settled,
+  settled-rows,
+  unless-only,
+  unless-map,
+  first-bad-map,
+  not-refused,
+}
 
 -- what a header that is not refused has
 pub record Headed (s : List ℕ) : Type 0 where
@@ -46,35 +55,94 @@ pub record Accepted (s : List ℕ) (n b : ℕ) : Type 0 where
 
 module _ {A : Type 0} (refusal : ℕ → ℕ → A) {s : List ℕ} {rest : A → Type 0} {x : A} where
   pub past-header : Headed s → rest x → Header A refusal s rest x
-  past-header h r = passed (h .long) (passed (h .letters) (passed (h .version) (passed (h .some, h .few) (passed (h .reserved) (passed (h .size) r)))))
+  past-header h r =
+      passed (h .long)
+      (passed (h .letters)
+      (passed (h .version) (passed (h .some, h .few) (passed (h .reserved) (passed (h .size) r)))))
 
-  -- an outcome that is no refusal comes of a good header
-  pub header-past : ((k r : ℕ) → (k ≡ 0 → ⊥) → refusal k r ≡ x → ⊥) → Header A refusal s rest x → Headed s × rest x
+  -- an outcome that is none of these refusals comes of a good header
+  pub header-past : ((k r : ℕ) → (k ≡ 0 → ⊥) → k ≤ 10 → refusal k r ≡ x → ⊥) → Header A refusal s rest x
+      → Headed s × rest x
   header-past n p =
-      let a = past (n 1 0 (λ e. omega arith)) p in
-      let b = past (n 2 0 (λ e. omega arith)) (a .1) in
-      let c = past (n 3 0 (λ e. omega arith)) (b .1) in
-      let d = past (n 4 0 (λ e. omega arith)) (c .1) in
-      let e = past (n 5 0 (λ e. omega arith)) (d .1) in
-      let f = past (n 6 0 (λ e. omega arith)) (e .1) in
-      (record { long = a .0; letters = b .0; version = c .0; some = d .0 .0; few = d .0 .1; reserved = e .0; size = f .0 }, f .1)
+      let a = past (n 1 0 (λ e. omega arith) (omega arith)) p in
+      let b = past (n 2 0 (λ e. omega arith) (omega arith)) (a .1) in
+      let c = past (n 3 0 (λ e. omega arith) (omega arith)) (b .1) in
+      let d = past (n 4 0 (λ e. omega arith) (omega arith)) (c .1) in
+      let e = past (n 5 0 (λ e. omega arith) (omega arith)) (d .1) in
+      let f = past (n 6 0 (λ e. omega arith) (omega arith)) (e .1) in (
+        record {
+          long = a .0;
+          letters = b .0;
+          version = c .0;
+          some = d .0 .0;
+          few = d .0 .1;
+          reserved = e .0;
+          size = f .0;
+        },
+        f .1,
+      )
 
   -- a good header refuses nothing
   pub header-rest : Headed s → Header A refusal s rest x → rest x
-  header-rest h p = settled (h .size) (settled (h .reserved) (settled (h .some, h .few) (settled (h .version) (settled (h .letters) (settled (h .long) p)))))
+  header-rest h p =
+      settled (h .size)
+      (settled (h .reserved)
+      (settled (h .some, h .few) (settled (h .version) (settled (h .letters) (settled (h .long) p)))))
 
--- a refusal of the header stays one in another type of outcome, whatever follows there
-pub header-map : {A B : Type 0} (f : A → B) (refusal : ℕ → ℕ → A) (s : List ℕ) {rest : A → Type 0} {rest′ : B → Type 0} {x : A}
-    → (1 ≤ nodesOf s → rest x → rest′ (f x)) → Header A refusal s rest x → Header B (λ k r. f (refusal k r)) s rest′ (f x)
-header-map f refusal s g p = unless-map f (λ _. unless-map f (λ _. unless-map f (λ _. unless-map f (λ h. unless-map f (λ _. unless-map f (λ _. g (h .0))))))) p
+-- a refusal of the header stays one in another type of outcome, whatever follows a good header there
+pub header-map : {A B : Type 0} (f : A → B) (refusal : ℕ → ℕ → A) (s : List ℕ) {rest : A → Type 0}
+    {rest′ : B → Type 0} {x : A} → (Headed s → rest x → rest′ (f x)) → Header A refusal s rest x
+    → Header B (λ k r. f (refusal k r)) s rest′ (f x)
+header-map f refusal s g p =
+    unless-map f
+    (λ a. unless-map f
+    (λ b. unless-map f
+    (λ c. unless-map f
+    (λ d. unless-map f
+    (λ e. unless-map f
+    (λ h. g
+    (record { long = a; letters = b; version = c; some = d .0; few = d .1; reserved = e; size = h })))))))
+    p
 
-pub tested-map : {A B : Type 0} (f : A → B) (refusal : ℕ → ℕ → A) (s : List ℕ) {rest : A → Type 0} {rest′ : B → Type 0} {x : A}
-    → (1 ≤ nodesOf s → rest x → rest′ (f x)) → Tested A refusal s rest x → Tested B (λ k r. f (refusal k r)) s rest′ (f x)
-tested-map f refusal s g p = header-map f refusal s (λ h. first-bad-map f (λ _. g h)) p
+-- a table whose header and rows are good: 1 to 10 refuse nothing
+abbrev pub GoodTable : List ℕ → Type 0
+GoodTable s = Examines s (found (nodesOf s) (boundOf s))
+
+abbrev pub GoodRows : List ℕ → Type 0
+GoodRows s = (r : ℕ) → r < nodesOf s - 1 → RowNumber (nodesOf s) (rowAt s r) 0
+
+pub good-table : {s : List ℕ} → Headed s → GoodRows s → GoodTable s
+good-table h rows = past-header refusal h (fine rows refl)
+
+-- a row's own refusals are 7 to 10
+row-small : (n : ℕ) (q : Row) (k : ℕ) → RowNumber n q k → k ≤ 10
+row-small n q k (refused c) = omega arith
+row-small n q k (passed a (refused c)) = omega arith
+row-small n q k (passed a (passed b (refused c))) = omega arith
+row-small n q k (passed a (passed b (passed d (refused c)))) = omega arith
+row-small n q k (passed a (passed b (passed d (passed e f)))) = omega arith
+
+module _ {A : Type 0} (refuse : ℕ → ℕ → A) (s : List ℕ) {rest : A → Type 0} {x : A} where
+  both-good : ((k r : ℕ) → (k ≡ 0 → ⊥) → k ≤ 10 → refuse k r ≡ x → ⊥) → Tested A refuse s rest x
+      → Headed s × GoodRows s × rest x
+  both-good n p =
+      let h = header-past refuse {s = s} n p in
+      let q = past-rows (λ k r z is. n k r z (row-small (nodesOf s) (rowAt s r) k is)) (h .1) in
+      (h .0, q .0, q .1)
+
+  -- an outcome that is none of 1 to 10 comes of a good table
+  pub tested-past : ((k r : ℕ) → (k ≡ 0 → ⊥) → k ≤ 10 → refuse k r ≡ x → ⊥) → Tested A refuse s rest x
+      → GoodTable s × rest x
+  tested-past n p = let t = both-good n p in (good-table (t .0) (t .1), t .2)
+
+pub tested-map : {A B : Type 0} (f : A → B) (refusal : ℕ → ℕ → A) (s : List ℕ) {rest : A → Type 0}
+    {rest′ : B → Type 0} {x : A} → (GoodTable s → rest x → rest′ (f x)) → Tested A refusal s rest x
+    → Tested B (λ k r. f (refusal k r)) s rest′ (f x)
+tested-map f refusal s g p = header-map f refusal s (λ h. first-bad-map f (λ rows. g (good-table h rows))) p
 
 -- what is found is no refusal
-not-refused : {n b k r : ℕ} → (k ≡ 0 → ⊥) → refusal k r ≡ found n b → ⊥
-not-refused n e = n (ap (λ (o : Outcome). o .number) e)
+unnumbered : {n b : ℕ} (k r : ℕ) → (k ≡ 0 → ⊥) → k ≤ 10 → refusal k r ≡ found n b → ⊥
+unnumbered k r n _ = not-refused (λ (o : Outcome). o .number) refl n
 
 -- a refusal finds nothing: its node count is 0
 pub nothing-found : {n b k r : ℕ} → 1 ≤ n → refusal k r ≡ found n b → ⊥
@@ -82,17 +150,21 @@ nothing-found h e = omega (arith, ap (λ (o : Outcome). o .nodes) e)
 
 pub opened : (s : List ℕ) (n b : ℕ) → Opens s (outcome (Opened n b)) → Headed s × (n ≡ nodesOf s) × (b ≡ boundOf s)
 opened s n b p =
-    let h = header-past refusal (λ k r. not-refused) p in
+    let h = header-past refusal unnumbered p in
     (h .0, ap (λ (o : Outcome). o .nodes) (h .1), ap (λ (o : Outcome). o .bound) (h .1))
 
 -- a refused opening is a refused examination, and an opened table is examined row by row
 pub refused-stays : (s : List ℕ) (w : Refusal) → Opens s (outcome (Refused w)) → Examines s (outcome (Refused w))
-refused-stays s w p = header-map (λ o. o) refusal s (λ h e. absurd (nothing-found h e)) p
+refused-stays s w p = header-map (λ o. o) refusal s (λ h e. absurd (nothing-found (h .some) e)) p
 
 pub opened-goes : (s : List ℕ) (n b : ℕ) (o : Outcome) → Opens s (outcome (Opened n b)) → Rows Outcome refusal s n (λ x. x ≡ found n b) o → Examines s o
 opened-goes s n b o p q = let h = opened s n b p in past-header refusal {s = s} (h .0) (rw (h .1, h .2) at q)
 
--- what a row numbered 0 has
+-- what a row numbered 0 has, and such a row is numbered 0
+pub good-number : (n : ℕ) (q : Row) → Good n q → RowNumber n q 0
+good-number n q g =
+    passed (g .first, g .second) (passed (g .apart) (passed (g .long) (passed (g .weight-within) refl)))
+
 pub good : (n : ℕ) (q : Row) → RowNumber n q 0 → Good n q
 good n q p =
     let a = past (λ e. omega (arith, e)) p in
@@ -103,33 +175,37 @@ good n q p =
 
 pub accepted : (s : List ℕ) (n b : ℕ) → Examines s (outcome (Opened n b)) → Accepted s n b
 accepted s n b p =
-    let h = header-past refusal (λ k r. not-refused) p in
-    let q = past-rows (λ k r. not-refused) (h .1) in
-    let e : n ≡ nodesOf s = ap (λ (o : Outcome). o .nodes) (q .1) in
+    let t = both-good refusal s unnumbered p in
+    let e : n ≡ nodesOf s = ap (λ (o : Outcome). o .nodes) (t .2) in
     record {
-      headed = h .0;
+      headed = t .0;
       nodes = e;
-      bound = ap (λ (o : Outcome). o .bound) (q .1);
-      stands = λ r l. omega (arith, h .0 .size);
-      rows = λ r l. rw e (good (nodesOf s) (rowAt s r) (q .0 r (omega arith)));
+      bound = ap (λ (o : Outcome). o .bound) (t .2);
+      stands = λ r l. omega (arith, t .0 .size);
+      rows = λ r l. rw e (good (nodesOf s) (rowAt s r) (t .1 r (omega arith)));
     }
 
 -- how an operation that begins with `examine` goes on where nothing is refused
-pub passed-on : {A : Type 0} (refuse : ℕ → ℕ → A) {rest : A → Type 0} (s : List ℕ) (n b : ℕ) {x : A} → Examines s (outcome (Opened n b)) → rest x → Tested A refuse s rest x
+pub passed-on : {A : Type 0} (refuse : ℕ → ℕ → A) {rest : A → Type 0} (s : List ℕ) (n b : ℕ) {x : A}
+    → Examines s (outcome (Opened n b)) → rest x → Tested A refuse s rest x
 passed-on refuse s n b p r =
-    let h = header-past refusal (λ k r. not-refused) p in
-    past-header refuse {s = s} (h .0) (fine (past-rows (λ k r. not-refused) (h .1) .0) r)
+    let t = both-good refusal s unnumbered p in
+    past-header refuse (t .0) (fine (t .1) r)
 
 pub row-number-only : (n : ℕ) (q : Row) → Only (RowNumber n q)
 row-number-only n q = unless-only (unless-only (unless-only (unless-only (λ x y p r. p ∙ sym r))))
 
--- where 1 to 10 refuse nothing, an outcome is as the rest says
-pub tested-rest : {A : Type 0} (refuse : ℕ → ℕ → A) (s : List ℕ) {rest : A → Type 0} {x : A} → Headed s → ((i : ℕ) → i < nodesOf s - 1 → RowNumber (nodesOf s) (rowAt s i) 0) → Tested A refuse s rest x → rest x
-tested-rest refuse s h rows p = settled-rows (λ i. row-number-only (nodesOf s) (rowAt s i)) rows (header-rest refuse h p)
+-- of a good table an outcome is as the rest says
+pub tested-rest : {A : Type 0} (refuse : ℕ → ℕ → A) (s : List ℕ) {rest : A → Type 0} {x : A} → GoodTable s
+    → Tested A refuse s rest x → rest x
+tested-rest refuse s g p =
+    let t = both-good refusal s unnumbered g in
+    settled-rows (λ i. row-number-only (nodesOf s) (rowAt s i)) (t .1) (header-rest refuse (t .0) p)
 
 -- how a function that begins with `open_table` hands a refusal on
 pub refused-header : {A : Type 0} (refuse : ℕ → ℕ → A) {rest : A → Type 0} (s : List ℕ) (w : Refusal) → Opens s (outcome (Refused w)) → Header A refuse s rest (refuse (w .number) (w .row))
-refused-header refuse s w p = header-map (λ o. refuse (o .number) (o .row)) refusal s (λ h e. absurd (nothing-found h e)) p
+refused-header refuse s w p =
+    header-map (λ o. refuse (o .number) (o .row)) refusal s (λ h e. absurd (nothing-found (h .some) e)) p
 
 -- all of a list is its part from 0 to its end
 pub take-all : (s : List ℕ) → take (length s - 0) s ≡ s

@@ -23,6 +23,10 @@ pub same : {a b c d : ℕ} {z : ℤ} → a + d ≡ c + b → Diff a b z → Diff
 same e (up n h) = up n (omega arith)
 same e (down n h) = down n (omega arith)
 
+-- of an equal number
+pub equally : {a b : ℕ} {y z : ℤ} → y ≡ z → Diff a b z → Diff a b y
+equally e h = rw e h
+
 -- one signed number only
 pub diff-only : {a b : ℕ} {y z : ℤ} → Diff a b y → Diff a b z → y ≡ z
 diff-only (up m h) (up n k) = ap pos (omega arith)

@@ -1,6 +1,7 @@
--- Laws of the forms of refusal: each allows one outcome where its rest does; an outcome that is not the refusal has passed; and a refusal stays one
--- when the outcome's type changes, by a function that takes refusals to refusals.
-use mathlib.Core.Path.{_≡_, refl}
+-- Laws of the forms of refusal: each allows one outcome where its rest does; an outcome that is not the refusal has
+-- passed, and one without a number is no refusal; a refusal stays one when the outcome's type changes, by a function
+-- that takes refusals to refusals, and when the good condition is said in other words.
+use mathlib.Core.Path.{_≡_, refl, ap, _∙_}
 use Prim.Native.Nat.{ℕ, _<_}
 use native.Mathlib.Decide.{decLt}
 use native.Mathlib.Omega.{arith}
@@ -28,6 +29,16 @@ pub unless-map : {A B : Type 0} (f : A → B) {no : A} {Ok : Type 0} {rest : A �
 unless-map f g (refused c) = refused c
 unless-map f g (passed k p) = passed k (g k p)
 
+-- the good condition in other words, and what follows alike
+pub unless-alike : {A : Type 0} {no : A} {Ok Ok′ : Type 0} {rest rest′ : A → Type 0} {x : A} → (Ok → Ok′) → (Ok′ → Ok)
+    → (rest x → rest′ x) → Unless A no Ok rest x → Unless A no Ok′ rest′ x
+unless-alike to fro f (refused c) = refused (λ k. c (fro k))
+unless-alike to fro f (passed k p) = passed (to k) (f p)
+
+-- an outcome without a number is no refusal, which has one
+pub not-refused : {A : Type 0} (number : A → ℕ) {no x : A} → number x ≡ 0 → (number no ≡ 0 → ⊥) → no ≡ x → ⊥
+not-refused number z n e = n (ap number e ∙ z)
+
 module _ {A : Type 0} {refusal : ℕ → ℕ → A} {m : ℕ} {Number : ℕ → ℕ → Type 0} {rest : A → Type 0} where
   pub first-bad-only : ((i : ℕ) → Only (Number i)) → Only rest → Only (FirstBad A refusal m Number rest)
   first-bad-only one o x y (bad r k l before is not) (bad r′ k′ l′ before′ is′ not′) = pick (decLt r r′) (decLt r′ r)
@@ -41,8 +52,9 @@ module _ {A : Type 0} {refusal : ℕ → ℕ → A} {m : ℕ} {Number : ℕ → 
   first-bad-only one o x y (fine all p) (fine all′ q) = o x y p q
 
   -- an outcome that is no refusal comes of good rows alone
-  pub past-rows : {x : A} → ((k r : ℕ) → (k ≡ 0 → ⊥) → refusal k r ≡ x → ⊥) → FirstBad A refusal m Number rest x → ((i : ℕ) → i < m → Number i 0) × rest x
-  past-rows n (bad r k l before is not) = absurd (n k r not refl)
+  pub past-rows : {x : A} → ((k r : ℕ) → (k ≡ 0 → ⊥) → Number r k → refusal k r ≡ x → ⊥)
+      → FirstBad A refusal m Number rest x → ((i : ℕ) → i < m → Number i 0) × rest x
+  past-rows n (bad r k l before is not) = absurd (n k r not is refl)
   past-rows n (fine all p) = (all, p)
 
   -- and good rows refuse nothing

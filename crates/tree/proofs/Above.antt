@@ -22,14 +22,20 @@ above-chain self k = inr k
 above-chain (up z e h) self = inl (up z e h)
 above-chain (up z e h) (up m f k) = above-chain h (rw (sym f ∙ e) at k)
 
+-- along a climb places never rise
+pub place-rises : {n : ℕ} {par place : ℕ → ℕ} → ((x : ℕ) → x < n → x ≢ 0 → par x < n)
+    → ((x : ℕ) → x < n → x ≢ 0 → place (par x) < place x) → {t x : ℕ} → x < n → Above par t x → place t ≤ place x
+place-rises fits earlier b self = omega arith
+place-rises fits earlier {t} {x} b (up z e h) =
+    omega (arith, rw e at (earlier x b z), place-rises fits earlier (rw e at (fits x b z)) h)
+
 module _ {n : ℕ} {par place : ℕ → ℕ} (T : Tree n par place) where
   pub fits-up : {t x : ℕ} → x < n → Above par t x → t < n
   fits-up b self = b
   fits-up {t} {x} b (up z e h) = fits-up (rw e at (T .fits x b z)) h
 
   pub place-up : {t x : ℕ} → x < n → Above par t x → place t ≤ place x
-  place-up b self = omega arith
-  place-up {t} {x} b (up z e h) = omega (arith, rw e at (T .earlier x b z), place-up (rw e at (T .fits x b z)) h)
+  place-up = place-rises (T .fits) (T .earlier)
 
   pub place-less : {t x : ℕ} → x < n → Above par t x → t ≢ x → place t < place x
   place-less b self n = absurd (n refl)

@@ -6,12 +6,12 @@ use mathlib.Core.List.{List, [], _∷_}
 use native.Mathlib.Omega.{arith}
 use lib.ListN.{length}
 use Rattle.arrays.specs.Filled.{at}
-use Rattle.tree.specs.Members.{In, past, Distinct}
-use Rattle.tree.specs.Members as members
+use Rattle.arrays.specs.Members.{In, past, Distinct}
+use Rattle.arrays.specs.Members as members
 use Rattle.tree.specs.Graph.{First, Walk, stop, go, Joined, RingAt}
 use Rattle.tree.specs.Ring.{RingRows, closed}
 use Rattle.tree.specs.Walked.{Reached, WalkedFrom}
-use Rattle.tree.proofs.Members.{not-nil}
+use Rattle.arrays.proofs.Members.{not-nil, in-one}
 use Rattle.tree.proofs.Chains.{half-ends}
 
 -- the climb from b stands at x, and the rows between are g - 1: no node on the way stands earlier in the order than x
@@ -35,14 +35,10 @@ module _ {start : ℕ} {us vs : ℕ → ℕ} {rows m : ℕ} {parent half order p
         ns = [];
         walk = stop;
         once = (not-nil, tt);
-        low = first;
+        low = λ z i. rw (in-one i) (omega arith);
         long = refl;
         most = omega (arith, w .listed b l j .0, w .some .1);
       }
-    where
-      first : (z : ℕ) → In z (b ∷ []) → at place b ≤ at place z
-      first z (members.at e) = rw e (omega arith)
-      first z (past i) = absurd (not-nil i)
 
   module _ {b x g : ℕ} (c : Climbed us vs rows m order place b x g) where
     pub climbed-fits : x < 4096

@@ -1,8 +1,10 @@
 -- Acceptance: from the ring test and the walk to refusals 11 and 12; what an accepted table has; how an operation that
--- begins with `accept` hands a refusal on or goes on, and that it refuses what acceptance does; that each of these
--- promises allows one outcome; and that acceptance allows one answer.
+-- begins with 1 to 12 hands a refusal on or goes on, seen through a function or said otherwise; that two such promises
+-- give equal outcomes where what follows does, so that each allows one and refuses what acceptance does; and that
+-- acceptance allows one answer. What 1 to 12 are is taken apart here, in Outcomes and in Eleven, and in no crate above.
 use Prim.Native.Nat.{ℕ, _-_, _≤_, _<_}
 use mathlib.Core.Path.{_≡_, refl, sym, ap, _∙_}
+use mathlib.Core.Logic.{_⊎_, inl, inr}
 use mathlib.Core.List.{List}
 use native.Mathlib.Omega.{arith}
 use Rattle.table.specs.Refuse.{refused, passed, bad, fine, Only}
@@ -11,31 +13,24 @@ use Rattle.table.specs.Outcome.{Examines}
 use Rattle.table.specs.Outcome as T
 use Rattle.table.specs.declared.Refusal as why
 use Rattle.table.specs.declared.Opening.the-variants.{Opened}
-use Rattle.table.proofs.Refusals.{past, past-rows, settled, unless-only, unless-map, first-bad-map}
-use Rattle.table.specs.Row.{rowAt}
-use Rattle.table.proofs.Accepted.{Headed, Good, good, accepted, header-past, past-header, tested-map, tested-rest}
+use Rattle.table.proofs.Refusals.{past, past-rows, settled, unless-only, unless-map, first-bad-map, not-refused}
+use Rattle.table.proofs.Accepted.{GoodTable, accepted, tested-past, tested-map, tested-rest}
 use Rattle.table.proofs.Accepted as table
 use Rattle.table.proofs.Only.{tested-only}
+use Rattle.tree.specs.Graph.{Forest}
 use Rattle.tree.specs.Net.{firstEnd, secondEnd, lengthOf, weightOf, Whole, Net}
-use Rattle.table.specs.Examine.{RowNumber}
-use Rattle.tree.specs.Ring.{RingRows, apart}
+use Rattle.tree.specs.Ring.{RingRows}
 use Rattle.tree.specs.Accept.{Rings, Begins, Outcome, refusal, found, outcome, Accepts}
 use Rattle.tree.specs.Work.{Readable, Fitting, Closing, FirstRing, Reaches}
 use Rattle.tree.specs.declared.Refusal.{Refusal}
 use Rattle.tree.specs.declared.Acceptance.{Acceptance}
 use Rattle.tree.specs.declared.Acceptance.the-variants as variants
 use Rattle.tree.proofs.Grown.{reached-all, all-joined}
-use Rattle.tree.proofs.RingRows.{row-open, rows-open, rings-only, rings-settled}
+use Rattle.tree.proofs.RingRows.{row-open, rows-open, open-rows, rings-only, rings-settled}
 
--- what is found is no refusal, and a refusal finds nothing
-pub not-refused : {n b k r g : ℕ} → (k ≡ 0 → ⊥) → refusal k r g ≡ found n b → ⊥
-not-refused n e = n (ap (λ (o : Outcome). o .number) e)
-
+-- a refusal finds nothing
 nothing-found : {n b k r g : ℕ} → 1 ≤ n → refusal k r g ≡ found n b → ⊥
 nothing-found h e = omega (arith, ap (λ (o : Outcome). o .nodes) e)
-
-eleven-refused : {n b r g : ℕ} → refusal 11 r g ≡ found n b → ⊥
-eleven-refused = not-refused (λ e. omega (arith, e))
 
 -- The code's side
 pub fitting : (s : List ℕ) (n b : ℕ) → Examines s (T.outcome (Opened n b)) → Fitting s n
@@ -75,13 +70,13 @@ found-closing f g l = record { readable = readable-less (omega arith) (fitting-r
 
 good-rows : (s : List ℕ) (n r : ℕ) → FirstRing (firstEnd s) (secondEnd s) (n - 1) r → n - 1 ≤ r → (i : ℕ) → i < n - 1
     → RingRows (firstEnd s) (secondEnd s) i 0
-good-rows s n r f l i h = apart (f .forest i (omega arith)) refl
+good-rows s n r f l i h = open-rows (firstEnd s) (secondEnd s) (f .forest) i (omega arith)
 
 module _ (s : List ℕ) (n : ℕ) {rest : Outcome → Type 0} where
   pub rings-bad : (r g : ℕ) → FirstRing (firstEnd s) (secondEnd s) (n - 1) r → r < n - 1
       → RingRows (firstEnd s) (secondEnd s) r g → Rings Outcome refusal s n rest (refusal 11 r g)
   rings-bad r g f l p =
-      bad r g l (λ i h. apart (f .forest i h) refl) p
+      bad r g l (open-rows (firstEnd s) (secondEnd s) (f .forest)) p
       (λ e. row-open (firstEnd s) (secondEnd s) (rw e at p) (f .closes l))
 
   module _ (r : ℕ) (f : FirstRing (firstEnd s) (secondEnd s) (n - 1) r) (l : n - 1 ≤ r) (g : Fitting s n) (m : ℕ)
@@ -108,8 +103,8 @@ module _ (s : List ℕ) (n : ℕ) {rest : Outcome → Type 0} where
 pub refused-stays : (s : List ℕ) (w : why.Refusal) → Examines s (T.refusal (w .number) (w .row))
     → Accepts s (refusal (w .number) (w .row) 0)
 refused-stays s w p =
-    tested-map (λ (o : T.Outcome). refusal (o .number) (o .row) 0) T.refusal s (λ h e. absurd (table.nothing-found h e))
-    p
+    tested-map (λ (o : T.Outcome). refusal (o .number) (o .row) 0) T.refusal s
+    (λ g e. absurd (table.nothing-found (accepted s (nodesOf s) (boundOf s) g .headed .some) e)) p
 
 pub examined-goes : (s : List ℕ) (n b : ℕ) (o : Outcome) → Examines s (T.outcome (Opened n b))
     → Rings Outcome refusal s n (λ x. x ≡ found n b) o → Accepts s o
@@ -117,114 +112,130 @@ examined-goes s n b o p q =
     let a = accepted s n b p in
     table.passed-on (λ k r. refusal k r 0) s n b p (rw (a .nodes, a .bound) at q)
 
+-- A table of which 1 to 12 refuse nothing: it is a net
+pub record Sound (s : List ℕ) : Type 0 where
+  pub good : GoodTable s
+  pub forest : Forest (firstEnd s) (secondEnd s) (nodesOf s - 1)
+  pub whole : Whole s (nodesOf s)
+
+pub sound-net : {s : List ℕ} → Sound s → Net s (nodesOf s)
+unfolding firstEnd secondEnd lengthOf weightOf
+sound-net {s} t =
+    let a = accepted s (nodesOf s) (boundOf s) (t .good) in
+    record {
+      some = a .headed .some;
+      few = a .headed .few;
+      stands = λ r l. a .stands r (omega arith);
+      first = λ r l. a .rows r (omega arith) .first;
+      second = λ r l. a .rows r (omega arith) .second;
+      apart = λ r l. a .rows r (omega arith) .apart;
+      short = λ r l. a .rows r (omega arith) .long;
+      within = λ r l. a .rows r (omega arith) .weight-within;
+      forest = t .forest;
+      joined = t .whole;
+    }
+
+-- How an operation that begins with 1 to 12 goes on
+module _ {A : Type 0} (refuse : ℕ → ℕ → ℕ → A) (s : List ℕ) {rest : A → Type 0} {x : A} where
+  -- an outcome that is no refusal comes of such a table
+  begins-sound : ((k r g : ℕ) → (k ≡ 0 → ⊥) → refuse k r g ≡ x → ⊥) → Begins A refuse s rest x → Sound s × rest x
+  begins-sound plain p =
+      let t = tested-past (λ k r. refuse k r 0) s (λ k r n _. plain k r 0 n) p in
+      let o = past-rows (λ g r _ _. plain 11 r g (λ e. omega (arith, e))) (t .1) in
+      let w = past (plain 12 0 0 (λ e. omega (arith, e))) (o .1) in
+      (record { good = t .0; forest = rows-open (firstEnd s) (secondEnd s) (o .0); whole = w .0 }, w .1)
+
+  pub begins-past : ((k r g : ℕ) → (k ≡ 0 → ⊥) → refuse k r g ≡ x → ⊥) → Begins A refuse s rest x
+      → Net s (nodesOf s) × rest x
+  begins-past plain p = let t = begins-sound plain p in (sound-net (t .0), t .1)
+
+  -- of such a table the outcome is as the rest says, both ways
+  pub sound-on : Sound s → rest x → Begins A refuse s rest x
+  sound-on t r =
+      table.passed-on (λ k r. refuse k r 0) s (nodesOf s) (boundOf s) (t .good)
+      (fine (open-rows (firstEnd s) (secondEnd s) (t .forest)) (passed (t .whole) r))
+
+  sound-rest : Sound s → Begins A refuse s rest x → rest x
+  sound-rest t p =
+      settled (t .whole)
+      (rings-settled (firstEnd s) (secondEnd s) (t .forest) (tested-rest (λ k r. refuse k r 0) s (t .good) p))
+
+-- a refusal of 1 to 12 stays one when outcomes are seen through a function; what follows is asked of an accepted net
+-- alone, and may be said otherwise of it
+pub begins-map : {A B : Type 0} (f : A → B) (refuse : ℕ → ℕ → ℕ → A) (s : List ℕ) {rest : A → Type 0}
+    {rest′ : B → Type 0} {x : A} → (Net s (nodesOf s) → rest x → rest′ (f x)) → Begins A refuse s rest x
+    → Begins B (λ k r g. f (refuse k r g)) s rest′ (f x)
+begins-map f refuse s g p =
+    tested-map f (λ k r. refuse k r 0) s
+    (λ t. first-bad-map f
+    (λ rings. unless-map f
+    (λ whole. g
+    (sound-net (record { good = t; forest = rows-open (firstEnd s) (secondEnd s) rings; whole = whole })))))
+    p
+
 -- What an accepted table has
+accept-sound : (s : List ℕ) (n b : ℕ) → Accepts s (found n b) → Sound s × (found n b ≡ found (nodesOf s) (boundOf s))
+accept-sound s n b p = begins-sound refusal s (λ k r g. not-refused (λ (o : Outcome). o .number) refl) p
+
 pub record Admitted (s : List ℕ) (n b : ℕ) : Type 0 where
   pub net : Net s n
   pub nodes : n ≡ nodesOf s
   pub bound : b ≡ boundOf s
 
-net-of : (s : List ℕ) → Headed s → ((r : ℕ) → r < nodesOf s - 1 → RowNumber (nodesOf s) (rowAt s r) 0)
-    → ((r : ℕ) → r < nodesOf s - 1 → RingRows (firstEnd s) (secondEnd s) r 0) → Whole s (nodesOf s) → Net s (nodesOf s)
-unfolding firstEnd secondEnd lengthOf weightOf
-net-of s h rows rings whole =
-    let g : (r : ℕ) → r < nodesOf s - 1 → Good (nodesOf s) (rowAt s r) = λ r l. good (nodesOf s) (rowAt s r)
-    (rows r l) in
-    record {
-      some = h .some;
-      few = h .few;
-      stands = λ r l. omega (arith, h .size);
-      first = λ r l. g r l .first;
-      second = λ r l. g r l .second;
-      apart = λ r l. g r l .apart;
-      short = λ r l. g r l .long;
-      within = λ r l. g r l .weight-within;
-      forest = rows-open (firstEnd s) (secondEnd s) rings;
-      joined = whole;
-    }
-
-module _ {A : Type 0} (refuse : ℕ → ℕ → ℕ → A) (s : List ℕ) {rest : A → Type 0} {x : A}
-    (plain : (k r g : ℕ) → (k ≡ 0 → ⊥) → refuse k r g ≡ x → ⊥) where
-  -- an outcome that is no refusal comes of an accepted net
-  pub begins-past : Begins A refuse s rest x → Net s (nodesOf s) × rest x
-  begins-past p =
-      let h = header-past (λ k r. refuse k r 0) {s = s} (λ k r. plain k r 0) p in
-      let q = past-rows (λ k r. plain k r 0) (h .1) in
-      let t = past-rows (λ g r _. plain 11 r g (λ e. omega (arith, e))) (q .1) in
-      let e = past (plain 12 0 0 (λ e. omega (arith, e))) (t .1) in
-      (net-of s (h .0) (q .0) (t .0) (e .0), e .1)
-
 pub admitted : (s : List ℕ) (n b : ℕ) → Accepts s (outcome (variants.Accepted n b)) → Admitted s n b
 admitted s n b p =
-    let h = begins-past refusal s (λ k r g. not-refused) p in
-    let e : n ≡ nodesOf s = ap (λ (o : Outcome). o .nodes) (h .1) in
-    record { net = rw e (h .0); nodes = e; bound = ap (λ (o : Outcome). o .bound) (h .1) }
+    let t = accept-sound s n b p in
+    let e : n ≡ nodesOf s = ap (λ (o : Outcome). o .nodes) (t .1) in
+    record { net = rw e (sound-net (t .0)); nodes = e; bound = ap (λ (o : Outcome). o .bound) (t .1) }
 
 -- How an operation that begins with `accept` hands a refusal on, and goes on where there is none
 module _ {A : Type 0} (refuse : ℕ → ℕ → ℕ → A) {rest : A → Type 0} (s : List ℕ) where
   pub refused-on : (w : Refusal) → Accepts s (outcome (variants.Refused w))
       → Begins A refuse s rest (refuse (w .number) (w .row) (w .ring))
   refused-on w p =
-      tested-map on (λ k r. refusal k r 0) s
-      (λ h. first-bad-map on (λ _. unless-map on (λ _ e. absurd (nothing-found h e)))) p
-    where
-      on : Outcome → A
-      on o = refuse (o .number) (o .row) (o .ring)
+      begins-map (λ (o : Outcome). refuse (o .number) (o .row) (o .ring)) refusal s
+      (λ n e. absurd (nothing-found (n .some) e)) p
 
   pub passed-on : (n b : ℕ) {x : A} → Accepts s (outcome (variants.Accepted n b)) → rest x → Begins A refuse s rest x
-  passed-on n b p r =
-      let h = header-past (λ k r. refusal k r 0) {s = s} (λ k r. not-refused) p in
-      let q = past-rows (λ k r. not-refused) (h .1) in
-      let t = past-rows (λ k r _. eleven-refused) (q .1) in
-      let e = past (λ e. not-refused (λ z. omega (arith, z)) e) (t .1) in
-      past-header (λ k r. refuse k r 0) (h .0) (fine (q .0) (fine (t .0) (passed (e .0) r)))
+  passed-on n b p r = sound-on refuse s (accept-sound s n b p .0) r
 
 -- an accepted table's outcome is as the rest says
 pub begins-rest : {A : Type 0} (refuse : ℕ → ℕ → ℕ → A) (s : List ℕ) {rest : A → Type 0} {x : A}
     → Accepts s (found (nodesOf s) (boundOf s)) → Begins A refuse s rest x → rest x
-begins-rest refuse s p q =
-    let h = header-past (λ k r. refusal k r 0) {s = s} (λ k r. not-refused) p in
-    let t = past-rows (λ k r. not-refused) (h .1) in
-    let o = past-rows (λ k r _. eleven-refused) (t .1) in
-    let e = past (λ e. not-refused (λ z. omega (arith, z)) e) (o .1) in
-    settled (e .0)
-    (rings-settled (firstEnd s) (secondEnd s) (o .0) (tested-rest (λ k r. refuse k r 0) s (h .0) (t .0) q))
+begins-rest refuse s p = sound-rest refuse s (accept-sound s (nodesOf s) (boundOf s) p .0)
 
--- One outcome
+-- Two promises that begin alike give equal outcomes, where their rests do of an accepted net
+pub begins-alike : {A : Type 0} (refuse : ℕ → ℕ → ℕ → A) (s : List ℕ) {rest rest′ : A → Type 0}
+    → (Net s (nodesOf s) → (x y : A) → rest x → rest′ y → x ≡ y) → (x y : A) → Begins A refuse s rest x
+    → Begins A refuse s rest′ y → x ≡ y
+begins-alike {A} refuse s {rest} {rest′} alike x y p q =
+    tested-only (λ k r. refuse k r 0) s (rings-only (firstEnd s) (secondEnd s) (unless-only one)) x y
+    (begins-map (λ o. o) refuse s (λ n r. inl (refl, n, r)) p)
+    (begins-map (λ o. o) refuse s (λ n r. inr (refl, r)) q)
+  where
+    Two : A → Type 0
+    Two z = ((z ≡ x) × Net s (nodesOf s) × rest x) ⊎ ((z ≡ y) × rest′ y)
+
+    one : Only Two
+    one a b (inl h) (inl k) = h .0 ∙ sym (k .0)
+    one a b (inl h) (inr k) = h .0 ∙ alike (h .1) x y (h .2) (k .1) ∙ sym (k .0)
+    one a b (inr h) (inl k) = h .0 ∙ sym (alike (k .1) x y (k .2) (h .1)) ∙ sym (k .0)
+    one a b (inr h) (inr k) = h .0 ∙ sym (k .0)
+
+-- so there is one outcome, where the rest allows one, and where it does of an accepted net;
 pub begins-only : {A : Type 0} (refuse : ℕ → ℕ → ℕ → A) (s : List ℕ) {rest : A → Type 0} → Only rest
     → Only (Begins A refuse s rest)
-begins-only refuse s o = tested-only (λ k r. refuse k r 0) s (rings-only (firstEnd s) (secondEnd s) (unless-only o))
+begins-only refuse s o = begins-alike refuse s (λ _. o)
 
--- what follows 1 to 12 is asked of an accepted net alone, and may be said otherwise of it
-pub begins-map : {A : Type 0} (refuse : ℕ → ℕ → ℕ → A) (s : List ℕ) {rest rest′ : A → Type 0} {x : A}
-    → (Net s (nodesOf s) → rest x → rest′ x) → Begins A refuse s rest x → Begins A refuse s rest′ x
-begins-map refuse s g p =
-    unless-map (λ o. o)
-    (λ a. unless-map (λ o. o)
-    (λ b. unless-map (λ o. o)
-    (λ c. unless-map (λ o. o)
-    (λ d. unless-map (λ o. o)
-    (λ e. unless-map (λ o. o)
-    (λ f. first-bad-map (λ o. o)
-    (λ rows. first-bad-map (λ o. o)
-    (λ rings. unless-map (λ o. o)
-    (λ whole. g
-    (net-of s (record { long = a; letters = b; version = c; some = d .0; few = d .1; reserved = e; size = f }) rows
-    rings whole))))))))))
-    p
-
--- one outcome, where the rest allows one of an accepted net
 pub begins-net-only : {A : Type 0} (refuse : ℕ → ℕ → ℕ → A) (s : List ℕ) {rest : A → Type 0}
     → (Net s (nodesOf s) → Only rest) → Only (Begins A refuse s rest)
-begins-net-only refuse s {rest} o x y p q =
-    begins-only refuse s {rest = λ z. Net s (nodesOf s) × rest z} (λ a b h k. o (h .0) a b (h .1) (k .1)) x y
-    (begins-map refuse s (λ n r. (n, r)) p) (begins-map refuse s (λ n r. (n, r)) q)
+begins-net-only refuse s o = begins-alike refuse s o
 
--- what acceptance refuses, every operation that begins with it refuses alike
+-- and what acceptance refuses, every operation that begins with it refuses alike
 pub refused-alike : {A : Type 0} (refuse : ℕ → ℕ → ℕ → A) (s : List ℕ) {rest : A → Type 0} {x : A} (k r g : ℕ)
     → Accepts s (refusal k r g) → Begins A refuse s rest x → x ≡ refuse k r g
 refused-alike refuse s {x = x} k r g p q =
-    begins-only refuse s {rest = λ z. z ≡ x} (λ a b h i. h ∙ sym i) x (refuse k r g)
-    (begins-map refuse s (λ _ _. refl) q)
+    begins-alike refuse s {rest′ = λ _. ⊥} (λ _ a b h none. absurd none) x (refuse k r g) q
     (refused-on refuse s (record { number = k; row = r; ring = g }) p)
 
 pub accept-only : (s : List ℕ) → Only (Accepts s)

@@ -8,9 +8,9 @@ use native.Mathlib.Nat.{not-suc-le-zero}
 use native.Mathlib.Numerals.{one-add}
 use native.Mathlib.Decide.{ℕ-discrete}
 use lib.ListN.{length, length-append}
-use Rattle.tree.specs.Members.{In, at, past, Distinct}
+use Rattle.arrays.specs.Members.{In, at, past, Distinct}
 use Rattle.tree.specs.Count.{Count}
-use Rattle.tree.proofs.Members.{in?, not-nil, in-left, in-right, in-either, distinct-join}
+use Rattle.arrays.proofs.Members.{in?, not-nil, in-one, in-left, in-right, in-either, distinct-join}
 
 -- the numbers below n
 unfoldable pub upto : ℕ → List ℕ
@@ -72,11 +72,13 @@ pub count-none : {P : ℕ → Type 0} → ((x : ℕ) → ¬ P x) → Count P 0
 count-none n = record { list = []; once = tt; only = λ x i. absurd (not-nil i); all = λ x h. absurd (n x h); long = refl }
 
 pub count-one : {P : ℕ → Type 0} (x : ℕ) → P x → ((y : ℕ) → P y → y ≡ x) → Count P 1
-count-one {P} x h n = record { list = x ∷ []; once = (not-nil, tt); only = only; all = λ y i. at (n y i); long = refl }
-  where
-    only : (y : ℕ) → In y (x ∷ []) → P y
-    only y (at e) = rw e h
-    only y (past i) = absurd (not-nil i)
+count-one {P} x h n = record {
+  list = x ∷ [];
+  once = (not-nil, tt);
+  only = λ y i. rw (in-one i) h;
+  all = λ y i. at (n y i);
+  long = refl;
+}
 
 pub count-add : {P Q R : ℕ → Type 0} {a b : ℕ} → Count P a → Count Q b → ((x : ℕ) → P x → Q x → ⊥) → ((x : ℕ) → R x → P x ⊎ Q x) → ((x : ℕ) → P x → R x) → ((x : ℕ) → Q x → R x) → Count R (a + b)
 count-add p q n f g h = record {

@@ -10,15 +10,8 @@ use native.Mathlib.Decide.{ℕ-discrete}
 use lib.ListN.{length}
 use Rattle.table.specs.Refuse.{refused, passed, bad, fine}
 use Rattle.table.specs.Header.{nodesOf, boundOf}
-use Rattle.table.specs.Outcome.{Examines}
-use Rattle.table.specs.Outcome as T
-use Rattle.table.proofs.Refusals.{past}
-use Rattle.table.specs.Refuse.{FirstBad}
-use Rattle.table.specs.Examine.{RowNumber}
-use Rattle.table.specs.Row.{rowAt}
-use Rattle.table.specs.declared.Row.{Row}
-use Rattle.table.proofs.Accepted.{accepted, passed-on, past-header}
-use Rattle.tree.specs.Members.{In}
+use Rattle.table.proofs.Accepted.{GoodTable, accepted, passed-on, tested-past}
+use Rattle.arrays.specs.Members.{In}
 use Rattle.tree.specs.Graph.{Ends, RingAt, Forest, Ring}
 use Rattle.tree.specs.Net.{firstEnd, secondEnd}
 use Rattle.tree.specs.Ring.{RingRows}
@@ -29,10 +22,6 @@ use Rattle.tree.proofs.RingExactly.{ring-closes, closes-ring}
 use Rattle.tree.proofs.RingRows.{rows-open, row-closed, row-number, most-rows, ring-of, two-rows, repeated}
 use Rattle.tree.proofs.OneRing.{one-ring}
 use Rattle.tree.proofs.Begins.{rings-bad}
-
--- 1 to 10 refuse nothing
-abbrev pub GoodTable : List ℕ → Type 0
-GoodTable s = Examines s (T.found (nodesOf s) (boundOf s))
 
 ends-differ : (s : List ℕ) → GoodTable s → (r : ℕ) → r < nodesOf s - 1 → firstEnd s r ≢ secondEnd s r
 unfolding firstEnd secondEnd
@@ -59,6 +48,15 @@ first-of s (suc k) = pick (first-of s k) (joined? (firstEnd s) (secondEnd s) k (
         last r h (yes e) = rw e n
         last r h (no m) = f r (omega arith)
 
+-- a good table is refused by 11 at the first row that closes a ring
+pub first-refused : (s : List ℕ) → GoodTable s → (r g : ℕ) → r < nodesOf s - 1 → Forest (firstEnd s) (secondEnd s) r
+    → RingRows (firstEnd s) (secondEnd s) r g → (g ≡ 0 → ⊥) → Accepts s (refusal 11 r g)
+first-refused s t r g l f p z =
+    let c = row-closed (firstEnd s) (secondEnd s) p z in
+    passed-on (λ k r. refusal k r 0) s (nodesOf s) (boundOf s) t
+    (rings-bad s (nodesOf s) r g
+    (record { within = omega arith; forest = f; closes = λ h. (c .0, c .1 .0, c .1 .1) }) l p)
+
 pub ring-refused : (s : List ℕ) → GoodTable s → Ring (firstEnd s) (secondEnd s) (nodesOf s - 1)
     → (r : ℕ) × (g : ℕ) × Accepts s (refusal 11 r g)
 ring-refused s g o = pick (first-of s (nodesOf s - 1)) (ring-closes (firstEnd s) (secondEnd s) o)
@@ -71,18 +69,8 @@ ring-refused s g o = pick (first-of s (nodesOf s - 1)) (ring-closes (firstEnd s)
         let n = row-number (firstEnd s) (secondEnd s) (t .3) in (
           t .0,
           n .0,
-          passed-on (λ k r. refusal k r 0) s (nodesOf s) (boundOf s) g
-              (rings-bad s (nodesOf s) (t .0) (n .0)
-              (record { within = omega (arith, t .1); forest = t .2; closes = λ h. t .3 }) (t .1) (n .1)),
+          first-refused s g (t .0) (n .0) (t .1) (t .2) (n .1) (n .2),
         )
-
--- a row's own refusals are 7 to 10
-row-small : (n : ℕ) (q : Row) (k : ℕ) → RowNumber n q k → k ≤ 10
-row-small n q k (refused c) = omega arith
-row-small n q k (passed a (refused c)) = omega arith
-row-small n q k (passed a (passed b (refused c))) = omega arith
-row-small n q k (passed a (passed b (passed d (refused c)))) = omega arith
-row-small n q k (passed a (passed b (passed d (passed e f)))) = omega arith
 
 -- where 11 is given, 1 to 10 refuse nothing, and the row named is the first that closes a ring, with its number
 pub record Closer (s : List ℕ) (r g : ℕ) : Type 0 where
@@ -93,12 +81,6 @@ pub record Closer (s : List ℕ) (r g : ℕ) : Type 0 where
   pub some : g ≡ 0 → ⊥
 
 module _ (s : List ℕ) where
-  rows-past : {rest : Outcome → Type 0} (x : Outcome) → x .number ≡ 11
-      → FirstBad Outcome (λ k r. refusal k r 0) (nodesOf s - 1) (λ r. RowNumber (nodesOf s) (rowAt s r)) rest x
-      → ((i : ℕ) → i < nodesOf s - 1 → RowNumber (nodesOf s) (rowAt s i) 0) × rest x
-  rows-past x e (bad r k l before is not) = absurd (omega (arith, e, row-small (nodesOf s) (rowAt s r) k is))
-  rows-past x e (fine all p) = (all, p)
-
   eleven : (x : Outcome) → x .number ≡ 11 → GoodTable s
       → Rings Outcome refusal s (nodesOf s) (λ x. x ≡ found (nodesOf s) (boundOf s)) x → Closer s (x .row) (x .ring)
   eleven x e t (bad r k l before is not) =
@@ -108,29 +90,9 @@ module _ (s : List ℕ) where
 
   pub closer : (r g : ℕ) → Accepts s (refusal 11 r g) → Closer s r g
   closer r g p =
-      let a = past (λ e. other e (omega arith)) p in
-      let b = past (λ e. other e (omega arith)) (a .1) in
-      let c = past (λ e. other e (omega arith)) (b .1) in
-      let d = past (λ e. other e (omega arith)) (c .1) in
-      let f = past (λ e. other e (omega arith)) (d .1) in
-      let h = past (λ e. other e (omega arith)) (f .1) in
-      let q = rows-past (refusal 11 r g) refl (h .1) in
-      eleven (refusal 11 r g) refl
-      (past-header T.refusal {s = s}
-      (record {
-        long = a .0;
-        letters = b .0;
-        version = c .0;
-        some = d .0 .0;
-        few = d .0 .1;
-        reserved = f .0;
-        size = h .0;
-      })
-      (fine (q .0) refl))
-      (q .1)
-    where
-      other : {k : ℕ} → refusal k 0 0 ≡ refusal 11 r g → k ≢ 11 → ⊥
-      other e n = n (ap (λ (o : Outcome). o .number) e)
+      let t = tested-past (λ k r. refusal k r 0) s
+      (λ k q _ l e. omega (arith, l, ap (λ (o : Outcome). o .number) e)) p in
+      eleven (refusal 11 r g) refl (t .0) (t .1)
 
   pub refused-ring : (r : ℕ) × (g : ℕ) × Accepts s (refusal 11 r g) → Ring (firstEnd s) (secondEnd s) (nodesOf s - 1)
   refused-ring q =

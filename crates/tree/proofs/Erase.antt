@@ -1,9 +1,9 @@
 -- Loop erasure: joined nodes have a simple path. At each step it is decided whether the node comes again.
 use Prim.Native.Nat.{ℕ}
 use mathlib.Core.List.{List, [], _∷_}
-use Rattle.tree.specs.Members.{In, at, past, Distinct}
+use Rattle.arrays.specs.Members.{In, at, past, Distinct}
 use Rattle.tree.specs.Graph.{Walk, stop, go, Joined, Simple}
-use Rattle.tree.proofs.Members.{in?, not-nil}
+use Rattle.arrays.proofs.Members.{in?, not-nil}
 
 module _ (u v : ℕ → ℕ) where
   -- the rest of a simple path from a node that it meets

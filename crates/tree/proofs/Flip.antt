@@ -1,15 +1,17 @@
 -- A walk the other way round: the same rows and the same nodes. So a path has the same length and weight either way.
+-- And two nodes that an operation takes, in the other order.
 use Prim.Native.Nat.{ℕ}
 use mathlib.Core.Path.{_≡_, refl, ap, _∙_}
 use mathlib.Core.Logic.{⊎-elim}
 use mathlib.Core.List.{List, [], _∷_, _++_}
 use native.Mathlib.Omega.{arith}
 use lib.IntN.{ℤ, _+ℤ_, +ℤ-comm}
-use Rattle.tree.specs.Members.{In, at, past, Distinct}
+use Rattle.arrays.specs.Members.{In, at, past, Distinct}
 use Rattle.tree.specs.Graph.{Walk, stop, go}
 use Rattle.tree.specs.Path.{Sum}
 use Rattle.tree.specs.Value.{Total, Value}
-use Rattle.tree.proofs.Members.{not-nil, in-left, in-right, in-either, distinct-snoc}
+use Rattle.tree.specs.Net.{TwoNodes}
+use Rattle.arrays.proofs.Members.{in-one, in-left, in-right, in-either, distinct-snoc}
 use Rattle.tree.proofs.Rows.{ends-flip}
 use Rattle.tree.proofs.Joined.{walk-snoc}
 use Rattle.tree.proofs.Rooted.{sum-snoc}
@@ -37,15 +39,11 @@ module _ (u v : ℕ → ℕ) where
         walk = walk-snoc u v (p .walk) h (ends-flip u v e);
         sum = λ f. omega (arith, sum-snoc f (p .rows) r, p .sum f);
         total = λ g. total-snoc g (p .rows) r ∙ ap (λ z. z +ℤ g r) (p .total g) ∙ +ℤ-comm (Total g rs) (g r);
-        to = λ z i. ⊎-elim (λ j. past (p .to z j)) (λ j. at (last z j)) (in-either (b ∷ p .nodes) i);
+        to = λ z i. ⊎-elim (λ j. past (p .to z j)) (λ j. at (in-one j)) (in-either (b ∷ p .nodes) i);
         fro = λ z i. back z p i;
         once = λ d. distinct-snoc (b ∷ p .nodes) a (p .once (d .1)) (λ i. d .0 (p .to a i));
       }
     where
-      last : (z : ℕ) → In z (a ∷ []) → z ≡ a
-      last z (at q) = q
-      last z (past i) = absurd (not-nil i)
-
       back : (z : ℕ) (p : Flipped P c b rs ns) → In z (a ∷ (c ∷ ns)) → In z (b ∷ (p .nodes ++ (a ∷ [])))
       back z p (at q) = in-right (b ∷ p .nodes) (at q)
       back z p (past i) = in-left (a ∷ []) (p .fro z i)
@@ -54,3 +52,6 @@ module _ (u v : ℕ → ℕ) where
   value-flip {long = long} {heavy = heavy} p =
       let f = flip (p .path .1) in
       record { rows = f .rows; path = (f .nodes, f .walk, f .once (p .path .2)); length = f .sum long ∙ p .length; weight = f .total heavy ∙ p .weight }
+
+pub two-flip : {n a b : ℕ} → TwoNodes n a b → TwoNodes n b a
+two-flip t = record { first = t .second; second = t .first; apart = λ e. t .apart (omega (arith, e)) }

@@ -6,7 +6,7 @@ use mathlib.Core.List.{List, [], _∷_}
 use native.Mathlib.Omega.{arith}
 use native.Mathlib.Decide.{decLt}
 use lib.ListN.{length}
-use Rattle.tree.specs.Members.{Distinct}
+use Rattle.arrays.specs.Members.{Distinct}
 use Rattle.tree.specs.Graph.{First, Ends, Walk, stop, go, Joined, Simple, Forest}
 use Rattle.tree.specs.Rooted.{Rooted}
 use Rattle.tree.specs.Net.{firstEnd, secondEnd, Net}

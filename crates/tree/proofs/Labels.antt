@@ -11,6 +11,13 @@ use lib.Dec.{T, eqb, eqb-refl, T-not}
 use Rattle.tree.specs.Graph.{First, Ends, Walk, stop, go, Joined, Forest}
 use Rattle.tree.proofs.Joined.{joined-refl, joined-step, joined-trans, joined-sym, joined-mono}
 
+-- two tests, both passed
+pub both : (a b : Bool) → T (a && b) → T a × T b
+both true true t = (tt, tt)
+both true false t = absurd t
+both false true t = absurd t
+both false false t = absurd t
+
 -- q where z is p, and z otherwise
 unfoldable pub relabel : ℕ → ℕ → ℕ → ℕ
 relabel p q z = elim (ℕ-discrete z p) [ yes e ↦ q | no n ↦ z ]
@@ -106,9 +113,3 @@ module _ (u v : ℕ → ℕ) where
       let y : ℕ = label k (v k) in
       let b : T (grows k) × T (not (eqb x y)) = both (grows k) (not (eqb x y)) t in
       forest-suc k (grows-forest k (b .0)) (λ e. T-not (eqb x y) (b .1) (rw e (eqb-refl y)))
-    where
-      both : (a b : Bool) → T (a && b) → T a × T b
-      both true true t = (tt, tt)
-      both true false t = absurd t
-      both false true t = absurd t
-      both false false t = absurd t

@@ -1,5 +1,4 @@
 -- Laws of this crate, by topic, for itself and for the crates above.
-pub mod Members
 pub mod Rows
 pub mod Joined
 pub mod Bridge

@@ -4,7 +4,7 @@ use mathlib.Core.Path.{_≡_}
 use mathlib.Core.Logic.{inl, _↔_, ⊎-elim}
 use mathlib.Core.List.{List, _∷_}
 use Rattle.arrays.specs.Filled.{at}
-use Rattle.tree.specs.Members.{In, Distinct}
+use Rattle.arrays.specs.Members.{In, Distinct}
 use Rattle.tree.specs.Graph.{First, Walk, Simple}
 use Rattle.tree.specs.Net.{firstEnd, secondEnd, Net}
 use Rattle.tree.specs.Rooted.{Above, self, Rooted}

@@ -4,7 +4,7 @@ use mathlib.Core.Path.{_≡_, refl, sym}
 use mathlib.Core.Logic.{inl, inr}
 use mathlib.Core.List.{List, _∷_}
 use native.Mathlib.Decide.{ℕ-discrete}
-use Rattle.tree.specs.Members.{In, at, past, Distinct}
+use Rattle.arrays.specs.Members.{In, at, past, Distinct}
 use Rattle.tree.specs.Graph.{First, Ends, Walk, stop, go, Joined, Forest}
 use Rattle.tree.proofs.Rows.{But, End, Closes, ends-left, other}
 use Rattle.tree.proofs.Joined.{joined-step, joined-trans, joined-sym}

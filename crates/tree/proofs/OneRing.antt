@@ -7,11 +7,11 @@ use mathlib.Core.Logic.{inl, inr}
 use mathlib.Core.List.{List, [], _∷_, _++_}
 use native.Mathlib.Omega.{arith}
 use lib.ListN.{length, length-append}
-use Rattle.tree.specs.Members.{In, at, past, Distinct}
+use Rattle.arrays.specs.Members.{In, at, past, Distinct}
 use Rattle.tree.specs.Graph.{First, Ends, Walk, stop, go, Forest, Ring}
 use Rattle.tree.specs.Path.{Sum}
 use Rattle.tree.specs.Ring.{RingRows, closed}
-use Rattle.tree.proofs.Members.{not-nil, in?, distinct-parts, distinct-turn}
+use Rattle.arrays.proofs.Members.{not-nil, in?, distinct-parts, distinct-turn}
 use Rattle.tree.proofs.Joined.{walk-on, walk-mono}
 use Rattle.tree.proofs.Flip.{flip}
 use Rattle.tree.proofs.RingExactly.{fresh, ring-closes}

@@ -8,7 +8,7 @@ use native.Mathlib.Decide.{ℕ-discrete, decLe}
 use lib.ListN.{set, length-set}
 use lib.Seq.{getD-set-same, getD-set-other}
 use Rattle.arrays.specs.Filled.{at, Filled}
-use Rattle.tree.specs.Members.{In}
+use Rattle.arrays.specs.Members.{In}
 use Rattle.tree.specs.Half.{from}
 use Rattle.tree.specs.Walked.{Reached, High}
 use Rattle.tree.specs.Work.{RowsFit, Last, Chained, Queue, Outer}

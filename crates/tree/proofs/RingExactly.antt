@@ -7,9 +7,9 @@ use mathlib.Core.List.{List, _∷_}
 use native.Mathlib.Omega.{arith}
 use native.Mathlib.Nat.{not-suc-le-zero}
 use lib.ListN.{length}
-use Rattle.tree.specs.Members.{In, at, past, Distinct}
+use Rattle.arrays.specs.Members.{In, at, past, Distinct}
 use Rattle.tree.specs.Graph.{First, Walk, stop, go, Forest, Ring}
-use Rattle.tree.proofs.Members.{not-nil}
+use Rattle.arrays.proofs.Members.{not-nil}
 use Rattle.tree.proofs.Rows.{But, Closes, ends-left}
 use Rattle.tree.proofs.Joined.{walk-mono}
 use Rattle.tree.proofs.Bridge.{detour}

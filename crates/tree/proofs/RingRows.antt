@@ -8,11 +8,11 @@ use mathlib.Core.List.{List, [], _∷_}
 use native.Mathlib.Omega.{arith}
 use lib.ListN.{length}
 use Rattle.table.specs.Refuse.{FirstBad, Only}
-use Rattle.tree.specs.Members.{In, at, past}
+use Rattle.arrays.specs.Members.{In, at, past}
 use Rattle.tree.specs.Graph.{First, Ends, Walk, stop, go, RingAt, Forest, Ring}
 use Rattle.tree.specs.Path.{Path}
 use Rattle.tree.specs.Ring.{RingRows, apart, closed}
-use Rattle.tree.proofs.Members.{not-nil}
+use Rattle.arrays.proofs.Members.{not-nil}
 use Rattle.tree.proofs.After.{first-bad-after, settled-after}
 use Rattle.tree.proofs.OnePath.{unique}
 use Rattle.tree.proofs.Counts.{count-below}
@@ -27,6 +27,9 @@ module _ (u v : ℕ → ℕ) where
 
   pub rows-open : {k : ℕ} → ((r : ℕ) → r < k → RingRows u v r 0) → Forest u v k
   rows-open f r h = row-open (f r h)
+
+  pub open-rows : {k : ℕ} → Forest u v k → (r : ℕ) → r < k → RingRows u v r 0
+  open-rows f r h = apart (f r h) refl
 
   -- any other row closes one, with the path between its ends
   pub row-closed : {r g : ℕ} → RingRows u v r g → (g ≡ 0 → ⊥)
@@ -52,8 +55,8 @@ module _ (u v : ℕ → ℕ) where
   rings-only o = first-bad-after (λ i before. ring-rows-only (rows-open before)) o
 
   pub rings-settled : {A : Type 0} {refuse : ℕ → ℕ → A} {m : ℕ} {rest : A → Type 0} {x : A}
-      → ((i : ℕ) → i < m → RingRows u v i 0) → FirstBad A refuse m (RingRows u v) rest x → rest x
-  rings-settled all = settled-after (λ i before. ring-rows-only (rows-open before)) all
+      → Forest u v m → FirstBad A refuse m (RingRows u v) rest x → rest x
+  rings-settled f = settled-after (λ i before. ring-rows-only (rows-open before)) (open-rows f)
 
   -- it is at most one more than r: the rows on the path differ and stand before r
   pub most-rows : {r g : ℕ} → RingRows u v r g → g ≤ r + 1

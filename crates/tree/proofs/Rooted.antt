@@ -1,15 +1,16 @@
 -- A net hung up at node 0: every row is the row of one of its ends; along any row but t's own, below t stays below t; from this a step away.
-use Prim.Native.Nat.{ℕ, zero, suc, _+_, _≤_, _<_}
+use Prim.Native.Nat.{ℕ, zero, suc, _+_, _<_}
 use mathlib.Core.Path.{_≡_, refl, sym, ap, _∙_}
 use mathlib.Core.Logic.{_⊎_, inl, inr, _≢_}
 use mathlib.Core.List.{List, [], _∷_, _++_}
 use native.Mathlib.Omega.{arith}
 use native.Mathlib.Decide.{ℕ-discrete}
-use Rattle.tree.specs.Members.{In, at, past, Distinct}
+use Rattle.arrays.specs.Members.{In, at, past, Distinct}
 use Rattle.tree.specs.Graph.{First, Ends, Walk, stop, go, Joined}
 use Rattle.tree.specs.Path.{Sum, Path}
 use Rattle.tree.specs.Rooted.{Above, self, up, Rooted}
-use Rattle.tree.proofs.Members.{not-nil, distinct-snoc}
+use Rattle.arrays.proofs.Members.{not-nil, distinct-snoc}
+use Rattle.tree.proofs.Above.{place-rises}
 use Rattle.tree.proofs.Rows.{But, Closes, ends-flip, ends-left, ends-one, other}
 use Rattle.tree.proofs.Joined.{joined-refl, joined-step, joined-trans, joined-sym, walk-mono, walk-snoc}
 use Rattle.tree.proofs.Bridge.{Cut, walk-cut, detour}
@@ -26,10 +27,6 @@ sum-snoc f (s ∷ rs) r = omega (arith, sum-snoc f rs r)
 
 module _ (u v : ℕ → ℕ) where
   module _ {k n : ℕ} {par row place : ℕ → ℕ} (T : Rooted u v k n par row place) where
-    pub above-place : {t x : ℕ} → x < n → Above par t x → place t ≤ place x
-    above-place b self = omega arith
-    above-place {t} {x} b (up z e h) = let l = T .earlier x b z in omega (arith, rw e at l, above-place (rw e at (T .par-fits x b z)) h)
-
     -- the climb from x uses no row r that is no row of a node above x
     climb-but : (r : ℕ) (m x : ℕ) → place x < m → x < n → ((y : ℕ) → y < n → y ≢ 0 → Above par y x → row y ≢ r) → Joined u v (But (First k) r) x 0
     climb-but r zero x l b h = absurd (omega arith)
@@ -103,7 +100,7 @@ module _ (u v : ℕ → ℕ) where
       above-last (go p e w) h = above-last w (above-row p e h)
 
       not-up : ¬ Above par t (par t)
-      not-up h = omega (arith, above-place (T .par-fits t bt zt) h, T .earlier t bt zt)
+      not-up h = omega (arith, place-rises (T .par-fits) (T .earlier) (T .par-fits t bt zt) h, T .earlier t bt zt)
 
       -- from x outside to t's parent, and from x inside to t, without t's row
       outside : {x : ℕ} → ¬ Above par t x → Joined u v (First k) x (par t) → Joined u v (But (First k) (row t)) x (par t)

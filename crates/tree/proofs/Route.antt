@@ -9,12 +9,12 @@ use lib.IntN.{ℤ}
 use Rattle.table.specs.Signed.{Diff}
 use Rattle.table.specs.Signed as signed
 use Rattle.table.proofs.Lift as lift
-use Rattle.tree.specs.Members.{In, at, past, Distinct}
+use Rattle.arrays.specs.Members.{In, at, Distinct}
 use Rattle.tree.specs.Graph.{First, Walk, stop}
 use Rattle.tree.specs.Path.{Sum}
 use Rattle.tree.specs.Value.{Total, Value}
 use Rattle.tree.specs.Rooted.{Above, self, up, Passed, Rooted}
-use Rattle.tree.proofs.Members.{not-nil, in-left, in-right, in-either}
+use Rattle.arrays.proofs.Members.{not-nil, in-one, in-left, in-right, in-either}
 use Rattle.tree.proofs.Rooted.{above-inv, sum-snoc, away-up, away-down}
 use Rattle.tree.proofs.Values.{total-snoc}
 use Rattle.tree.proofs.Above.{Tree, above-trans, above-anti, fits-up, place-up}
@@ -59,8 +59,7 @@ module _ {u v : ℕ → ℕ} {k n : ℕ} {par row place : ℕ → ℕ} (R : Root
   }
     where
       only : (z : ℕ) → In z (x ∷ []) → Above par x z × Above par z x
-      only z (at e) = (rw e self, rw e self)
-      only z (past i) = absurd (not-nil i)
+      only z i = let e = in-one i in (rw e self, rw e self)
 
   up-step : {x w : ℕ} → x < n → w ≢ 0 → Up x w → Up x (par w)
   up-step {x} {w} b q p =
@@ -79,8 +78,7 @@ module _ {u v : ℕ → ℕ} {k n : ℕ} {par row place : ℕ → ℕ} (R : Root
       }
     where
       last : (z : ℕ) → In z (par w ∷ []) → Above par (par w) z × Above par z x
-      last z (at e) = (rw e self, rw e (above-trans (up q refl self) (p .above)))
-      last z (past i) = absurd (not-nil i)
+      last z i = let e = in-one i in (rw e self, rw e (above-trans (up q refl self) (p .above)))
 
   climb : {t w x : ℕ} → x < n → Up x w → Above par t w → Up x t
   climb b p self = p
@@ -120,8 +118,7 @@ module _ {u v : ℕ → ℕ} {k n : ℕ} {par row place : ℕ → ℕ} (R : Root
       out a = dis y (record { above = a; below = up q e j; not = below }) (record { above = self; below = up q e j; not = below })
 
       last : (z : ℕ) → In z (y ∷ []) → Above par t z × (Above par z x ⊎ Above par z y)
-      last z (at s) = (rw s (up q e j), inr (rw s self))
-      last z (past i) = absurd (not-nil i)
+      last z i = let s = in-one i in (rw s (up q e j), inr (rw s self))
 
       wider : {z : ℕ} → Above par z x ⊎ Above par z m → Above par z x ⊎ Above par z y
       wider (inl a) = inl a

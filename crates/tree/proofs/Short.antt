@@ -8,12 +8,12 @@ use native.Mathlib.Omega.{arith}
 use lib.IntN.{ℤ, natAbs}
 use lib.ListN.{length}
 use Rattle.table.proofs.Near.{sum-near}
-use Rattle.tree.specs.Members.{In, at, past, Distinct}
+use Rattle.arrays.specs.Members.{In, at, past, Distinct}
 use Rattle.tree.specs.Graph.{First, Ends, Walk, stop, go}
 use Rattle.tree.specs.Path.{Sum}
 use Rattle.tree.specs.Value.{Value, Total}
 use Rattle.tree.specs.Net.{firstEnd, secondEnd, lengthOf, Net}
-use Rattle.tree.proofs.Members.{not-nil}
+use Rattle.arrays.proofs.Members.{not-nil}
 use Rattle.tree.proofs.Counts.{count-below}
 
 module _ {u v : ℕ → ℕ} {k n : ℕ} (fit : (r : ℕ) → r < k → (u r < n) × (v r < n)) where

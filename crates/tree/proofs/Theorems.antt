@@ -7,7 +7,8 @@ use mathlib.Core.List.{List, _∷_}
 use lib.ListN.{length}
 use Rattle.arrays.specs.Filled.{at}
 use Rattle.table.specs.Header.{nodesOf}
-use Rattle.tree.specs.Members.{In, Distinct}
+use Rattle.table.proofs.Accepted.{GoodTable}
+use Rattle.arrays.specs.Members.{In, Distinct}
 use Rattle.tree.specs.Graph.{First, Ends, Walk, Simple, Ring}
 use Rattle.tree.specs.Net.{firstEnd, secondEnd, Net}
 use Rattle.tree.specs.Accept.{Outcome, refusal, Begins, Accepts}
@@ -17,7 +18,7 @@ use Rattle.tree.proofs.RingExactly.{forest-iff}
 use Rattle.tree.proofs.OnePath.{unique}
 use Rattle.tree.proofs.Outcomes.{by-beginning}
 use Rattle.tree.proofs.Begins as begins
-use Rattle.tree.proofs.Eleven.{GoodTable, ring-refused, refused-ring}
+use Rattle.tree.proofs.Eleven.{ring-refused, refused-ring}
 use Rattle.tree.proofs.Eleven as eleven
 use Rattle.tree.proofs.NetWalk.{net-simple, climb-path}
 

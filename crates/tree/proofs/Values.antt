@@ -8,7 +8,7 @@ use Rattle.tree.specs.Graph.{stop, Forest}
 use Rattle.tree.specs.Path.{Sum}
 use Rattle.tree.specs.Rooted.{Above, Rooted}
 use Rattle.tree.specs.Value.{Total, Value}
-use Rattle.tree.proofs.Members.{not-nil}
+use Rattle.arrays.proofs.Members.{not-nil}
 use Rattle.tree.proofs.OnePath.{unique}
 use Rattle.tree.proofs.Erase.{simple}
 use Rattle.tree.proofs.Rooted.{sum-snoc, path-down, path-up}

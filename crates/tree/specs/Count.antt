@@ -3,7 +3,7 @@ use Prim.Native.Nat.{ℕ}
 use mathlib.Core.Path.{_≡_}
 use mathlib.Core.List.{List}
 use lib.ListN.{length}
-use Rattle.tree.specs.Members.{In, Distinct}
+use Rattle.arrays.specs.Members.{In, Distinct}
 
 pub record Count (P : ℕ → Type 0) (k : ℕ) : Type 0 where
   pub list : List ℕ

@@ -4,7 +4,7 @@ use mathlib.Core.Path.{_≡_}
 use mathlib.Core.Logic.{_⊎_}
 use mathlib.Core.List.{List, [], _∷_}
 use lib.ListN.{length}
-use Rattle.tree.specs.Members.{Distinct}
+use Rattle.arrays.specs.Members.{Distinct}
 
 -- the rows before row k
 abbrev pub First : ℕ → ℕ → Type 0

@@ -1,7 +1,7 @@
 -- The simple path between two nodes, and the sum of what its rows have.
 use Prim.Native.Nat.{ℕ, _+_}
 use mathlib.Core.List.{List, [], _∷_}
-use Rattle.tree.specs.Members.{Distinct}
+use Rattle.arrays.specs.Members.{Distinct}
 use Rattle.tree.specs.Graph.{First, Walk}
 
 abbrev pub Sum : (ℕ → ℕ) → List ℕ → ℕ

@@ -6,7 +6,7 @@ use mathlib.Core.List.{List}
 use lib.ListN.{length, set}
 use Rattle.arrays.specs.Filled.{at}
 use Rattle.table.specs.Row.{Stands}
-use Rattle.tree.specs.Members.{In}
+use Rattle.arrays.specs.Members.{In}
 use Rattle.tree.specs.Graph.{RingAt, Forest}
 use Rattle.tree.specs.Net.{firstEnd, secondEnd}
 use Rattle.tree.specs.Half.{from}

@@ -1,23 +1,20 @@
 -- A table that passes these tests is accepted: good header, good rows, no ring, and every node joined to node 0. Then
 -- an operation's promise is what follows refusals 1 to 12.
 use Prim.Native.Nat.{ℕ, _-_, _*_, _<_}
-use mathlib.Core.Path.{_≡_, refl}
 use mathlib.Core.Bool.{Bool, not}
 use mathlib.Core.List.{List, [], _∷_}
 use lib.Dec.{T, eqb, ltb, leb, eqb-refl, eqb→eq, ltb→lt, leb→le, T-not}
 use lib.IntN.{pos, negsuc}
 use lib.ListN.{length}
 use lib.Signed.{leZ, leZ-yes}
-use Rattle.table.specs.Refuse.{passed, fine}
 use Rattle.table.specs.Bytes.{byteAt}
 use Rattle.table.specs.Header.{versionOf, nodesOf}
 use Rattle.table.specs.Row.{rowAt}
-use Rattle.table.specs.Examine.{RowNumber, Tested}
-use Rattle.table.proofs.Accepted.{Headed, past-header}
+use Rattle.table.proofs.Accepted.{Headed, Good, GoodTable, good-table, good-number}
 use Rattle.tree.specs.Graph.{Forest}
 use Rattle.tree.specs.Net.{firstEnd, secondEnd, Whole}
-use Rattle.tree.specs.Ring.{apart}
 use Rattle.tree.specs.Accept.{Begins}
+use Rattle.tree.proofs.Begins.{sound-on}
 use Rattle.tree.proofs.Labels.{label, label-joined, grows, grows-forest}
 use Rattle.worked.proofs.Tests.{every, every-passed, below, below-all}
 
@@ -46,14 +43,16 @@ module _ (s : List ℕ) where
       ∷ leb (rowAt s r .length) 1000000 ∷ leZ (negsuc 999999) (rowAt s r .weight)
       ∷ leZ (rowAt s r .weight) (pos 1000000) ∷ []
 
-  row-good : (r : ℕ) → T (every (row-tests r)) → RowNumber (nodesOf s) (rowAt s r) 0
+  row-good : (r : ℕ) → T (every (row-tests r)) → Good (nodesOf s) (rowAt s r)
   row-good r t =
       let p = every-passed (row-tests r) t in
-      let differ : rowAt s r .a ≡ rowAt s r .b → ⊥ = λ e. T-not (eqb (rowAt s r .a) (rowAt s r .b)) (p .1 .1 .0)
-      (rw e (eqb-refl (rowAt s r .b))) in
-      passed (ltb→lt _ _ (p .0), ltb→lt _ _ (p .1 .0))
-      (passed differ
-      (passed (leb→le _ _ (p .1 .1 .1 .0)) (passed (leZ-yes (p .1 .1 .1 .1 .0), leZ-yes (p .1 .1 .1 .1 .1 .0)) refl)))
+      record {
+        first = ltb→lt _ _ (p .0);
+        second = ltb→lt _ _ (p .1 .0);
+        apart = λ e. T-not (eqb (rowAt s r .a) (rowAt s r .b)) (p .1 .1 .0) (rw e (eqb-refl (rowAt s r .b)));
+        long = leb→le _ _ (p .1 .1 .1 .0);
+        weight-within = (leZ-yes (p .1 .1 .1 .1 .0), leZ-yes (p .1 .1 .1 .1 .1 .0));
+      }
 
   -- 1 to 10 refuse nothing
   abbrev good-tests : List Bool
@@ -67,11 +66,11 @@ module _ (s : List ℕ) where
     unfolding good?
     good-row = below-all (λ r. every (row-tests r)) (nodesOf s - 1) (every-passed good-tests t .1 .0)
 
-    pub good : {A : Type 0} (refuse : ℕ → ℕ → A) {rest : A → Type 0} {x : A} → rest x → Tested A refuse s rest x
+    pub good : GoodTable s
     unfolding good?
-    good refuse r =
-        past-header refuse {s = s} (headed (every-passed good-tests t .0))
-        (fine (λ i b. row-good i (good-row i b)) r)
+    good =
+        good-table (headed (every-passed good-tests t .0))
+        (λ i b. good-number (nodesOf s) (rowAt s i) (row-good i (good-row i b)))
 
   abbrev joins : ℕ → Bool
   joins x =
@@ -103,4 +102,4 @@ module _ (s : List ℕ) where
     pub begins : {A : Type 0} (refuse : ℕ → ℕ → ℕ → A) {rest : A → Type 0} {x : A} → rest x → Begins A refuse s rest x
     unfolding accepted?
     begins refuse r =
-        good (every-passed tests t .0) (λ k r. refuse k r 0) (fine (λ i b. apart (forest i b) refl) (passed whole r))
+        sound-on refuse s (record { good = good (every-passed tests t .0); forest = forest; whole = whole }) r

@@ -10,6 +10,7 @@ use lib.ListN.{length}
 use Rattle.table.specs.Refuse.{passed, refused}
 use Rattle.table.specs.Header.{nodesOf, boundOf}
 use Rattle.pages.specs.Listing.{Entry, entry}
+use Rattle.pages.proofs.Qualifying.{passes-map}
 use Rattle.answers.specs.Heaviest.{Outcome, refusal, found, Runs, HeaviestOf}
 use Rattle.worked.proofs.Tests.{every, every-passed, eqZ, eqZ-is}
 use Rattle.worked.proofs.Accepted.{accepted?, begins}
@@ -45,10 +46,10 @@ module _ (way : ℕ → ℕ → List ℕ) (s marks : List ℕ) (o : Outcome) whe
   heaviest? = every tests
 
   to : (e : Entry) → Wanted s marks way short any e → Runs (λ l. l ≤ boundOf s) s marks (nodesOf s) e
-  to e p = record { pair = p .pair; node = p .node; path = p .path; short = leb→le _ _ (p .short); heavy = tt }
+  to e = passes-map (λ q. q) (λ l. leb→le _ _ l) (λ _. tt)
 
   fro : (e : Entry) → Runs (λ l. l ≤ boundOf s) s marks (nodesOf s) e → Wanted s marks way short any e
-  fro e p = record { pair = p .pair; node = p .node; path = p .path; short = le→leb _ _ (p .short); heavy = tt }
+  fro e = passes-map (λ q. q) (λ l. le→leb _ _ l) (λ _. tt)
 
   pub is-heaviest : T heaviest? → HeaviestOf s marks o
   unfolding heaviest?

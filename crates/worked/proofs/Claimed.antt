@@ -11,14 +11,14 @@ use lib.ListN.{length, List·getD-eq-default}
 use Rattle.arrays.specs.Filled.{at}
 use Rattle.table.specs.Refuse.{passed, refused}
 use Rattle.table.specs.Header.{nodesOf, boundOf}
-use Rattle.tree.specs.Members.{In}
+use Rattle.arrays.specs.Members.{In}
 use Rattle.tree.specs.Path.{Sum}
 use Rattle.tree.specs.Net.{lengthOf}
+use Rattle.tree.proofs.Labels.{both}
 use Rattle.marks.specs.Change.{Outcome, refusal, changed, Changes}
 use Rattle.marks.specs.Claim.{Between, InReach, Taken, Ended, Claims}
 use Rattle.worked.proofs.Tests.{
   and,
-  both,
   is-true,
   is-false,
   cond-yes,

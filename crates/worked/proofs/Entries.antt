@@ -8,10 +8,22 @@ use native.Mathlib.Omega.{arith}
 use lib.Dec.{T, eqb, ltb, eqb-refl, eqb→eq, ltb→lt, lt→ltb, le→leb, T-not}
 use lib.IntN.{ℤ, pos, negsuc}
 use lib.Signed.{ltZ, _≤ℤ_, leZ-yes, ltZ-yes, ≤ℤ-refl, <ℤ-irrefl}
-use Rattle.pages.specs.Listing.{Entry, After, first, second, In, at, past, Rising, none, more}
-use Rattle.pages.proofs.Members.{not-nil}
+use Rattle.arrays.specs.Members.{In, at, past}
+use Rattle.pages.specs.Listing.{Entry, After, first, second, Rising, none, more}
+use Rattle.tree.proofs.Labels.{both}
 use Rattle.answers.specs.Heaviest.{AtLeast}
-use Rattle.worked.proofs.Tests.{and, both, either, left-or, right-or, every, every-passed, eqZ, eqZ-is}
+use Rattle.worked.proofs.Tests.{
+  and,
+  either,
+  left-or,
+  right-or,
+  every,
+  every-passed,
+  throughout,
+  throughout-in,
+  eqZ,
+  eqZ-is,
+}
 
 abbrev entry-tests : Entry → Entry → List Bool
 entry-tests x y = eqb (x .low) (y .low) ∷ eqb (x .high) (y .high) ∷ eqb (x .length) (y .length) ∷ eqZ (x .weight) (y .weight) ∷ []
@@ -73,17 +85,6 @@ is-at-least e f t = one (either (ltZ (f .weight) (e .weight)) (eqZ (f .weight) (
         let a = both (eqZ (f .weight) (e .weight)) (ltb (e .length) (f .length) || (eqb (e .length) (f .length) && not (after? (f .low) (f .high) e))) h in
         two (eqZ-is (f .weight) (e .weight) (a .0)) (either (ltb (e .length) (f .length)) (eqb (e .length) (f .length) && not (after? (f .low) (f .high) e)) (a .1))
 
--- every member of a list passes a test
-unfoldable pub each : (Entry → Bool) → List Entry → Bool
-each test [] = true
-each test (x ∷ l) = test x && each test l
-
-pub each-in : (test : Entry → Bool) (l : List Entry) → T (each test l) → (x : Entry) → In x l → T (test x)
-unfolding each
-each-in test [] t x h = absurd (not-nil h)
-each-in test (y ∷ l) t x (at q) = rw q (both (test y) (each test l) t .0)
-each-in test (y ∷ l) t x (past h) = each-in test l (both (test y) (each test l) t .1) x h
-
 unfoldable pub has-entry : List Entry → Entry → Bool
 has-entry [] e = false
 has-entry (x ∷ l) e = same-entry e x || has-entry l e
@@ -99,9 +100,13 @@ has-entry-in (x ∷ l) e t = pick (either (same-entry e x) (has-entry l e) t) (h
 
 unfoldable pub rising? : List Entry → Bool
 rising? [] = true
-rising? (x ∷ l) = each (after? (x .low) (x .high)) l && rising? l
+rising? (x ∷ l) = throughout (after? (x .low) (x .high)) l && rising? l
 
 pub is-rising : (l : List Entry) → T (rising? l) → Rising l
 unfolding rising?
 is-rising [] t = none
-is-rising (x ∷ l) t = let a = both (each (after? (x .low) (x .high)) l) (rising? l) t in more (λ y h. is-after (x .low) (x .high) y (each-in (after? (x .low) (x .high)) l (a .0) y h)) (is-rising l (a .1))
+is-rising (x ∷ l) t =
+    let a = both (throughout (after? (x .low) (x .high)) l) (rising? l) t in
+    more
+    (λ y h. is-after (x .low) (x .high) y (throughout-in (after? (x .low) (x .high)) l (a .0) y h))
+    (is-rising l (a .1))

@@ -12,12 +12,13 @@ use Rattle.tree.specs.Net.{firstEnd, secondEnd}
 use Rattle.tree.specs.Rooted.{Rooted}
 use Rattle.tree.proofs.Above.{Tree}
 use Rattle.tree.proofs.Joined.{joined-trans, joined-sym}
+use Rattle.tree.proofs.Labels.{both}
 use Rattle.spines.specs.Spine.{Head}
 use Rattle.spines.specs.Heads.{HeadOf}
 use Rattle.spines.specs.Parents.{Child}
 use Rattle.spines.proofs.Head.{head-some}
 use Rattle.spines.proofs.Net.{head-net}
-use Rattle.worked.proofs.Tests.{both, either, every, every-passed, below, below-all}
+use Rattle.worked.proofs.Tests.{either, every, every-passed, below, below-all}
 use Rattle.worked.proofs.Accepted.{accepted?, forest, whole, ends-fit}
 
 pub self-less : (x : ℕ) → x < suc x

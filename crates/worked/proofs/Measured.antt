@@ -8,12 +8,12 @@ use lib.Dec.{T, eqb, ltb, eqb-refl, eqb→eq, ltb→lt, T-not}
 use lib.ListN.{length}
 use Rattle.table.specs.Refuse.{passed}
 use Rattle.table.specs.Header.{nodesOf}
-use Rattle.tree.specs.Members.{In, at, past}
+use Rattle.arrays.specs.Members.{In, at, past}
 use Rattle.tree.specs.Net.{firstEnd, secondEnd, lengthOf}
 use Rattle.tree.specs.Path.{Sum}
 use Rattle.tree.specs.Value.{Total}
 use Rattle.tree.specs.Count.{Count}
-use Rattle.tree.proofs.Members.{not-nil}
+use Rattle.arrays.proofs.Members.{not-nil}
 use Rattle.marks.specs.Weighs.{weightUnder}
 use Rattle.spines.specs.Spine.{ChildOf}
 use Rattle.spines.specs.Heads.{HeadOf}

@@ -14,18 +14,26 @@ use Rattle.table.specs.Header.{nodesOf, boundOf}
 use Rattle.pages.specs.Listing.{Entry, After, Listing}
 use Rattle.pages.specs.Passes.{Qualifies}
 use Rattle.pages.specs.Page.{Following}
+use Rattle.pages.proofs.Qualifying.{passes-map}
 use Rattle.pages.specs.Bytes.{rows}
 use Rattle.answers.specs.PathOf.{PathOf}
 use Rattle.answers.specs.Listing.{Outcome, refusal, ListingOf}
-use Rattle.worked.proofs.Tests.{either, is-false, every, every-passed, same, same-is}
+use Rattle.worked.proofs.Tests.{
+  either,
+  is-false,
+  every,
+  every-passed,
+  throughout,
+  throughout-in,
+  same,
+  same-is,
+}
 use Rattle.worked.proofs.Accepted.{accepted?, begins}
 use Rattle.worked.proofs.Pairs.{of, ways?, Wanted, wanted?, is-wanted, all-pairs, all-wanted}
 use Rattle.worked.proofs.Entries.{
   after?,
   is-after,
   after-test,
-  each,
-  each-in,
   has-entry,
   has-entry-in,
   rising?,
@@ -65,7 +73,7 @@ module _ (way : ℕ → ℕ → List ℕ) (s marks : List ℕ) (floor : ℤ) (lo
   abbrev tests : List Bool
   tests =
       accepted? s ∷ eqb (length marks) (nodesOf s - 1) ∷ ways? s marks way ∷ leb 16 (length lent) ∷ rising? gathered
-      ∷ each (wanted? s marks way short (leZ floor)) gathered ∷ each (after? low high) gathered
+      ∷ throughout (wanted? s marks way short (leZ floor)) gathered ∷ throughout (after? low high) gathered
       ∷ all-pairs s marks way short (leZ floor) listed ∷ not (o .refused) ∷ eqb (o .number) 0 ∷ eqb (o .row) 0
       ∷ eqb (o .written) (length given) ∷ eqb (length given + o .left) (length gathered)
       ∷ same (o .bytes) (rows given ++ drop (16 * o .written) lent) ∷ eqb (o .ring) 0 ∷ []
@@ -77,18 +85,10 @@ module _ (way : ℕ → ℕ → List ℕ) (s marks : List ℕ) (floor : ℤ) (lo
   Wants = Qualifies (PathOf s marks (nodesOf s)) (λ l. l ≤ boundOf s) floor (nodesOf s)
 
   to : (e : Entry) → Wanted s marks way short (leZ floor) e → Wants e
-  to e p =
-      record {
-        pair = p .pair;
-        node = p .node;
-        path = p .path;
-        short = leb→le _ _ (p .short);
-        heavy = leZ-yes (p .heavy);
-      }
+  to e = passes-map (λ q. q) (λ l. leb→le _ _ l) (λ w. leZ-yes w)
 
   fro : (e : Entry) → Wants e → Wanted s marks way short (leZ floor) e
-  fro e p =
-      record { pair = p .pair; node = p .node; path = p .path; short = le→leb _ _ (p .short); heavy = p .heavy .le }
+  fro e = passes-map (λ q. q) (λ l. le→leb _ _ l) (λ w. w .le)
 
   pub is-listing : T listing? → ListingOf s marks floor low high lent o
   unfolding listing?
@@ -126,7 +126,7 @@ module _ (way : ℕ → ℕ → List ℕ) (s marks : List ℕ) (floor : ℤ) (lo
           pick (inr h) = h
 
       all : T (accepted? s) → T (ways? s marks way) → T (rising? gathered)
-          → T (each (wanted? s marks way short (leZ floor)) gathered) → T (each (after? low high) gathered)
+          → T (throughout (wanted? s marks way short (leZ floor)) gathered) → T (throughout (after? low high) gathered)
           → T (all-pairs s marks way short (leZ floor) listed) → Listing (Following Wants low high) gathered
       all ok w a b c d =
           record {
@@ -135,8 +135,8 @@ module _ (way : ℕ → ℕ → List ℕ) (s marks : List ℕ) (floor : ℤ) (lo
                 λ e i. (
                   to e
                       (is-wanted s marks way short (leZ floor) w e
-                      (each-in (wanted? s marks way short (leZ floor)) gathered b e i)),
-                  is-after low high e (each-in (after? low high) gathered c e i),
+                      (throughout-in (wanted? s marks way short (leZ floor)) gathered b e i)),
+                  is-after low high e (throughout-in (after? low high) gathered c e i),
                 );
             complete = λ e f. has-entry-in gathered e
                 (found e (f .1) (all-wanted s marks way short (leZ floor) ok w listed d e (fro e (f .0))));

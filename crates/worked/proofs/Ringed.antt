@@ -1,20 +1,20 @@
 -- Acceptance that refuses by 11: an outcome that passes the test is the one promised. The rows before the row named
 -- make no ring, and the way between its ends goes along them alone; so its ring has that row and those of the way.
 use Prim.Native.Nat.{ℕ, _+_, _-_}
-use mathlib.Core.Path.{_≡_, refl}
+use mathlib.Core.Path.{_≡_}
 use mathlib.Core.Bool.{Bool}
 use mathlib.Core.List.{List, [], _∷_}
 use native.Mathlib.Omega.{arith}
 use lib.Dec.{T, eqb, ltb, eqb→eq, ltb→lt}
 use lib.ListN.{length}
-use Rattle.table.specs.Refuse.{bad}
 use Rattle.table.specs.Header.{nodesOf}
 use Rattle.tree.specs.Graph.{First, Walk, stop, go}
 use Rattle.tree.specs.Net.{firstEnd, secondEnd}
-use Rattle.tree.specs.Ring.{apart, closed}
+use Rattle.tree.specs.Ring.{closed}
 use Rattle.tree.specs.Accept.{Outcome, refusal, Accepts}
-use Rattle.tree.proofs.Labels.{grows, grows-forest}
-use Rattle.worked.proofs.Tests.{both, every, every-passed, throughout}
+use Rattle.tree.proofs.Eleven.{first-refused}
+use Rattle.tree.proofs.Labels.{both, grows, grows-forest}
+use Rattle.worked.proofs.Tests.{every, every-passed, throughout}
 use Rattle.worked.proofs.Accepted.{good?, good}
 use Rattle.worked.proofs.Ways.{met, path?, is-walk}
 
@@ -54,10 +54,9 @@ module _ (way : ℕ → ℕ → List ℕ) (s : List ℕ) (o : Outcome) where
       let b : o .bound ≡ 0 = eqb→eq _ _ (q .1 .1 .1 .1 .0) in
       let w = is-walk s (firstEnd s r) rs (secondEnd s r) (p .1 .1 .1 .0) in
       turn (λ i. record { number = k i; row = r; ring = o .ring; nodes = n i; bound = b i })
-      (good s (p .0) (λ k r. refusal k r 0)
-      (bad r (o .ring) (ltb→lt _ _ (p .1 .0))
-      (λ i h. apart (grows-forest (firstEnd s) (secondEnd s) r (p .1 .1 .0) i h) refl)
-      (closed rs (met s (firstEnd s r) rs, earlier r (q .0) (w .0), w .1) g) (λ e. omega (arith, e, g))))
+      (first-refused s (good s (p .0)) r (o .ring) (ltb→lt _ _ (p .1 .0))
+      (grows-forest (firstEnd s) (secondEnd s) r (p .1 .1 .0))
+      (closed rs (met s (firstEnd s r) rs, earlier r (q .0) (w .0), w .1) g) (λ e. omega (arith, e, g)))
     where
       turn : o ≡ refusal 11 r (o .ring) → Accepts s (refusal 11 r (o .ring)) → Accepts s o
       turn e h = rw e h

@@ -9,13 +9,8 @@ use native.Mathlib.Nat.{not-suc-le-zero}
 use native.Mathlib.Decide.{ℕ-discrete}
 use lib.Dec.{T, eqb, eqb-refl, eqb→eq, T-not}
 use lib.IntN.{ℤ, pos, negsuc}
-use Rattle.tree.specs.Members.{In, at, past, Distinct}
-
-pub both : (a b : Bool) → T (a && b) → T a × T b
-both true true t = (tt, tt)
-both true false t = absurd t
-both false true t = absurd t
-both false false t = absurd t
+use Rattle.arrays.specs.Members.{In, at, past, Distinct}
+use Rattle.tree.proofs.Labels.{both}
 
 pub and : (a b : Bool) → T a → T b → T (a && b)
 and true true s t = tt
@@ -102,11 +97,11 @@ has-in x (y ∷ l) t = pick (either (eqb x y) (has x l) t) (has-in x l)
     pick (inr h) ih = past (ih h)
 
 -- every member passes a test
-unfoldable pub throughout : (ℕ → Bool) → List ℕ → Bool
+unfoldable pub throughout : {A : Type 0} → (A → Bool) → List A → Bool
 throughout f [] = true
 throughout f (x ∷ l) = f x && throughout f l
 
-pub throughout-in : (f : ℕ → Bool) (l : List ℕ) → T (throughout f l) → (x : ℕ) → In x l → T (f x)
+pub throughout-in : {A : Type 0} (f : A → Bool) (l : List A) → T (throughout f l) → (x : A) → In x l → T (f x)
 unfolding throughout
 throughout-in f (y ∷ l) t x (at e) = rw e (both (f y) (throughout f l) t .0)
 throughout-in f (y ∷ l) t x (past h) = throughout-in f l (both (f y) (throughout f l) t .1) x h

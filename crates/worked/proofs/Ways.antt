@@ -6,12 +6,13 @@ use mathlib.Core.Bool.{Bool, true, false, _&&_, _||_, cond}
 use mathlib.Core.List.{List, [], _∷_}
 use lib.Dec.{T, eqb, ltb, eqb→eq, ltb→lt}
 use Rattle.table.specs.Header.{nodesOf}
-use Rattle.tree.specs.Members.{Distinct}
+use Rattle.arrays.specs.Members.{Distinct}
 use Rattle.tree.specs.Graph.{First, Ends, Walk, stop, go}
 use Rattle.tree.specs.Path.{Path}
 use Rattle.tree.specs.Net.{firstEnd, secondEnd}
 use Rattle.tree.proofs.OnePath.{unique}
-use Rattle.worked.proofs.Tests.{both, no-repeat, no-repeat-distinct}
+use Rattle.tree.proofs.Labels.{both}
+use Rattle.worked.proofs.Tests.{no-repeat, no-repeat-distinct}
 use Rattle.worked.proofs.Accepted.{accepted?, forest}
 
 module _ (s : List ℕ) where

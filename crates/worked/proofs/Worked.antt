@@ -9,7 +9,7 @@ use lib.ListN.{getD}
 use Rattle.tree.specs.Net.{firstEnd, secondEnd, lengthOf, weightOf}
 use Rattle.tree.specs.Value.{Total}
 use Rattle.tree.proofs.Counts.{count-dec}
-use Rattle.tree.proofs.Labels.{label, relabel, grows}
+use Rattle.tree.proofs.Labels.{both, label, relabel, grows}
 use Rattle.spines.proofs.Leaves.{some?, above?, child?, leaf?, leaf-under?, leaves-some, many}
 use Rattle.spines.proofs.Main.{best, main-some, main?}
 use Rattle.spines.proofs.Head.{head-some}
@@ -17,12 +17,12 @@ use Rattle.marks.specs.Weighs.{weighs, weightUnder}
 use Rattle.pages.specs.Bytes.{bytes, row, rows}
 use Rattle.worked.specs.Case.{Case, accept, heaviest, listing, heads, leaves, pair, claim, Holds, All}
 use Rattle.worked.specs.Cases.{net5, n5, free, held, marked, crossed, lent, three, cases}
-use Rattle.worked.proofs.Tests.{both, every, below, has, throughout, no-repeat, same}
+use Rattle.worked.proofs.Tests.{every, below, has, throughout, no-repeat, same}
 use Rattle.worked.proofs.Accepted.{good?, accepted?}
 use Rattle.worked.proofs.Ways.{other, met, leads, path?}
 use Rattle.worked.proofs.Ringed.{ringed?, is-ringed}
 use Rattle.worked.proofs.Pairs.{ways?, wanted?, all-pairs}
-use Rattle.worked.proofs.Entries.{after?, at-least?, same-entry, each, has-entry, rising?}
+use Rattle.worked.proofs.Entries.{after?, at-least?, same-entry, has-entry, rising?}
 use Rattle.worked.proofs.Page.{listing?, is-listing, seconds, firsts}
 use Rattle.worked.proofs.Claimed.{claim?, is-claim, frees}
 use Rattle.worked.proofs.Hung.{par, hangs?, headAt}
@@ -82,7 +82,7 @@ all-hold (c ∷ l) t = let a = both (check c) (check-all l) t in (check-holds c 
 pub cases-hold : All cases
 unfolding head-some main? main-some best many count-dec leaves-some leaf-under? leaf? child? above? some? decLt decLe up
     by heads? leaves? pair? hangs? par headAt once heads-of check-all check cases net5 n5 free held marked crossed lent
-    three way ways heaviest? claim? frees throughout listing? seconds firsts bytes row rows rising? each has-entry
+    three way ways heaviest? claim? frees throughout listing? seconds firsts bytes row rows rising? has-entry
     same-entry same good? accepted? ringed? ways? path? leads met other wanted? all-pairs at-least? after? every below
     has no-repeat label relabel grows ℕ-discrete firstEnd secondEnd lengthOf weightOf weightUnder weighs Total
 cases-hold = all-hold cases tt

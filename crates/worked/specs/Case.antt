@@ -4,7 +4,7 @@ use Prim.Native.Nat.{ℕ, _-_}
 use mathlib.Core.List.{List, [], _∷_}
 use lib.IntN.{ℤ}
 use Rattle.table.specs.Header.{nodesOf}
-use Rattle.tree.specs.Members.{In}
+use Rattle.arrays.specs.Members.{In}
 use Rattle.tree.specs.Net.{firstEnd, secondEnd}
 use Rattle.tree.specs.Accept as A
 use Rattle.tree.specs.Accept.{Accepts}
