@@ -1,182 +1,99 @@
-//! The form of a case, and the lines that answer it (README.md has both).
-use crate::net::{self, Lengths};
+//! A case: a table, marks and asks; its bytes and its lines (README.md has both).
+use crate::asks::{Ask, Op, Said, CODES};
 use std::io::{Read, Result, Write};
 
-/// What every lent byte and every lent head holds before a call.
-pub const LENT: u8 = 165;
-
-#[derive(Clone, Copy, PartialEq, Debug)]
-pub enum Floor {
-    Number(i64),
-    Least,
-    Greatest,
-}
-
-#[derive(Clone)]
+#[derive(Clone, PartialEq)]
 pub struct Case {
+    /// Written before the lines as it stands.
+    pub text: String,
     pub table: Vec<u8>,
     pub marks: Vec<u16>,
-    pub run: u16,
-    pub other: u16,
-    pub a: u16,
-    pub b: u16,
-    pub start: (u16, u16),
-    pub room: u16,
-    pub heads: u16,
-    pub floor: Floor,
+    pub asks: Vec<Ask>,
 }
 
-impl Floor {
-    fn value(self) -> i64 {
-        match self {
-            Floor::Number(z) => z,
-            Floor::Least => i64::MIN,
-            Floor::Greatest => i64::MAX,
-        }
+fn numbers(out: &mut impl Write, all: &[usize]) -> Result<()> {
+    for x in all {
+        out.write_all(&u16::try_from(*x).expect("16 bits").to_le_bytes())?;
     }
+    Ok(())
 }
 
 pub fn write(out: &mut impl Write, cases: &[Case]) -> Result<()> {
-    out.write_all(&(cases.len() as u32).to_le_bytes())?;
+    out.write_all(&(cases.len() as u64).to_le_bytes())?;
     for c in cases {
-        let (kind, lifted) = match c.floor {
-            Floor::Number(z) => (0u16, (z + (1 << 33)) as u64),
-            Floor::Least => (1, 0),
-            Floor::Greatest => (2, 0),
-        };
-        assert!(lifted < 1 << 34 && c.table.len() <= 49_200 && c.marks.len() <= 4_200 && c.heads <= 4_200);
-        let words = [
-            c.table.len() as u16,
-            c.marks.len() as u16,
-            c.run,
-            c.other,
-            c.a,
-            c.b,
-            c.start.0,
-            c.start.1,
-            c.room,
-            c.heads,
-            kind,
-        ];
-        for w in words {
-            out.write_all(&w.to_le_bytes())?;
-        }
-        out.write_all(&lifted.to_le_bytes())?;
-        out.write_all(&[0, 0])?;
+        assert!(c.text.len() <= 512 && c.table.len() <= 49_200 && c.marks.len() <= 4_200);
+        numbers(out, &[c.text.len(), c.table.len(), c.marks.len(), c.asks.len()])?;
+        out.write_all(c.text.as_bytes())?;
         out.write_all(&c.table)?;
         for m in &c.marks {
             out.write_all(&m.to_le_bytes())?;
+        }
+        for q in &c.asks {
+            let code = CODES.iter().find(|(op, _)| *op == q.op).unwrap().1;
+            assert!(q.text.len() <= 512 && (q.op != Op::Heads || q.lent <= 4_200));
+            numbers(out, &[code as usize, q.text.len()])?;
+            numbers(out, &[q.lent, q.shown, q.run, q.a, q.b].map(usize::from))?;
+            out.write_all(&q.x.to_le_bytes())?;
+            out.write_all(q.text.as_bytes())?;
         }
     }
     Ok(())
 }
 
+fn number(input: &mut impl Read) -> Result<u16> {
+    let mut b = [0; 2];
+    input.read_exact(&mut b)?;
+    Ok(u16::from_le_bytes(b))
+}
+
+fn long(input: &mut impl Read) -> Result<u64> {
+    let mut b = [0; 8];
+    input.read_exact(&mut b)?;
+    Ok(u64::from_le_bytes(b))
+}
+
+fn bytes(input: &mut impl Read, size: usize) -> Result<Vec<u8>> {
+    let mut b = vec![0; size];
+    input.read_exact(&mut b)?;
+    Ok(b)
+}
+
+fn text(input: &mut impl Read, size: u16) -> Result<String> {
+    Ok(String::from_utf8(bytes(input, size as usize)?).expect("a text"))
+}
+
+fn ask(input: &mut impl Read) -> Result<Ask> {
+    let mut n = [0; 7];
+    for x in n.iter_mut() {
+        *x = number(input)?;
+    }
+    let [code, size, lent, shown, run, a, b] = n;
+    let op = CODES.iter().find(|(_, c)| *c == code).expect("an operation").0;
+    let x = long(input)?;
+    Ok(Ask { op, text: text(input, size)?, lent, shown, run, a, b, x })
+}
+
 pub fn read(input: &mut impl Read) -> Result<Vec<Case>> {
-    let mut count = [0; 4];
-    input.read_exact(&mut count)?;
     let mut cases = Vec::new();
-    for _ in 0..u32::from_le_bytes(count) {
-        let mut head = [0; 32];
-        input.read_exact(&mut head)?;
-        let word = |i: usize| u16::from_le_bytes([head[2 * i], head[2 * i + 1]]);
-        let lifted = u64::from_le_bytes(head[22..30].try_into().unwrap());
-        let mut table = vec![0; word(0) as usize];
-        input.read_exact(&mut table)?;
-        let mut marks = vec![0; 2 * word(1) as usize];
-        input.read_exact(&mut marks)?;
-        cases.push(Case {
-            table,
-            marks: marks.chunks(2).map(|m| u16::from_le_bytes([m[0], m[1]])).collect(),
-            run: word(2),
-            other: word(3),
-            a: word(4),
-            b: word(5),
-            start: (word(6), word(7)),
-            room: word(8),
-            heads: word(9),
-            floor: match word(10) {
-                0 => Floor::Number(lifted as i64 - (1 << 33)),
-                1 => Floor::Least,
-                _ => Floor::Greatest,
-            },
-        });
+    for _ in 0..long(input)? {
+        let (size, table, marks, asks) = (number(input)?, number(input)?, number(input)?, number(input)?);
+        let text = text(input, size)?;
+        let table = bytes(input, table as usize)?;
+        let marks = (0..marks).map(|_| number(input)).collect::<Result<_>>()?;
+        let asks = (0..asks).map(|_| ask(input)).collect::<Result<_>>()?;
+        cases.push(Case { text, table, marks, asks });
     }
     Ok(cases)
 }
 
-/// Over lent memory, element by element.
-fn sum(values: impl Iterator<Item = u64>) -> u64 {
-    values.fold(1, |s, x| (s * 257 + x) % 4_294_967_291)
-}
-
-fn sum_marks(marks: &[u16]) -> u64 {
-    sum(marks.iter().map(|m| *m as u64))
-}
-
-/// Number, row and ring, and the fields, which are all 0 in a refusal.
-fn fields<T>(r: Answer<T>, zeros: &str, show: impl Fn(T) -> String) -> String {
-    match r {
-        Ok(x) => format!("0 0 0 {}", show(x)).trim_end().to_string(),
-        Err(net::Refused { number, row, ring }) => format!("{number} {row} {ring} {zeros}").trim_end().to_string(),
+impl Case {
+    /// What each ask is answered, on one set of marks.
+    pub fn answers(&self) -> Vec<Said> {
+        let mut marks = self.marks.clone();
+        self.asks.iter().map(|q| q.answer(&self.table, &mut marks)).collect()
     }
-}
 
-type Answer<T> = std::result::Result<T, net::Refused>;
-
-/// The report of a case's table, all branches free: its lines as documents 01 and 02 have them.
-pub fn report(out: &mut impl Write, c: &Case) -> Result<()> {
-    let t = &c.table[..];
-    let free = |n: usize| vec![0; n - 1];
-    let found = net::accept(t).and_then(|net| Ok((net::heaviest(t, &free(net.n))?, net)));
-    let ((a, b, length, weight), net) = match found {
-        Ok(x) => x,
-        Err(why) if why.number == 11 => return writeln!(out, "refused 11 row {} ring {}", why.row, why.ring),
-        Err(why) => return writeln!(out, "refused {} row {}", why.number, why.row),
-    };
-    writeln!(out, "net {} bound {}", net.n, net.bound)?;
-    writeln!(out, "best {a} {b} length {length} weight {weight}")?;
-    let mut total = 0;
-    for a in 0..net.n {
-        let f = net.from(a, &free(net.n));
-        for b in (a + 1..net.n).filter(|b| f.length[*b] <= net.bound && f.weight[*b] == weight) {
-            writeln!(out, "pair {a} {b} {} {}", f.length[b], f.weight[b])?;
-            total += 1;
-        }
+    pub fn lines(&self) -> Vec<String> {
+        self.asks.iter().zip(self.answers()).map(|(q, said)| q.line(&said)).collect()
     }
-    writeln!(out, "total {total}")
-}
-
-/// The twelve lines of a case.
-pub fn answer(out: &mut impl Write, c: &Case) -> Result<()> {
-    let t = &c.table[..];
-    let mut marks = c.marks.clone();
-    let pair = |m: &[u16]| fields(net::pair(t, m, c.a, c.b), "0 0 0", |(l, w, h)| format!("{l} {w} {h}"));
-    let run = |r: Answer<(usize, usize, u64, i64)>| fields(r, "0 0 0 0", |(a, b, l, w)| format!("{a} {b} {l} {w}"));
-    let page = |m: &[u16], lengths: Lengths| {
-        let mut rows = vec![LENT; c.room as usize];
-        let said = net::listing(t, m, lengths, c.floor.value(), c.start, &mut rows);
-        format!("{} sum {}", fields(said, "0 0", |(w, l)| format!("{w} {l}")), sum(rows.iter().map(|b| *b as u64)))
-    };
-    let count = |r: Answer<usize>| fields(r, "0", |k| k.to_string());
-
-    writeln!(out, "accept {}", fields(net::accept(t), "0 0", |net| format!("{} {}", net.n, net.bound)))?;
-    writeln!(out, "pair {}", pair(&marks))?;
-    writeln!(out, "heaviest {}", run(net::heaviest(t, &marks)))?;
-    writeln!(out, "heaviest_exact {}", run(net::heaviest_exact(t, &marks)))?;
-
-    let mut list = vec![LENT as u16; c.heads as usize];
-    let said = fields(net::heads(t, &mut list), "", |_| String::new());
-    writeln!(out, "heads {} sum {}", said, sum_marks(&list))?;
-
-    writeln!(out, "listing {}", page(&marks, Lengths::AtMost))?;
-    writeln!(out, "listing_exact {}", page(&marks, Lengths::Exactly))?;
-
-    let said = count(net::claim(t, &mut marks, c.run, c.a, c.b));
-    writeln!(out, "claim {} sum {}", said, sum_marks(&marks))?;
-    writeln!(out, "heaviest {}", run(net::heaviest(t, &marks)))?;
-    let said = count(net::settle(t, &mut marks, c.other, 65535));
-    writeln!(out, "commit {} sum {}", said, sum_marks(&marks))?;
-    let said = count(net::settle(t, &mut marks, c.run, 0));
-    writeln!(out, "abort {} sum {}", said, sum_marks(&marks))?;
-    writeln!(out, "pair {}", pair(&marks))
 }

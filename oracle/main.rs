@@ -1,21 +1,86 @@
-//! The second program: makes cases from a seed, and answers cases from the words of documents 01 and 02 alone.
+//! The second program: hand-worked and random cases, and their answers from the words of documents 01 and 02 alone.
+mod asks;
 mod cases;
 mod make;
 mod net;
+mod plain;
 mod random;
+mod reports;
+mod worked;
 
+use cases::Case;
 use std::io::{stdin, stdout, BufReader, BufWriter, Result, Write};
 
-fn number(arg: Option<String>) -> u64 {
-    arg.and_then(|a| a.parse().ok()).unwrap_or_else(|| usage())
-}
+const USAGE: &str = "\
+usage: oracle make SEED COUNT LIMIT [worked] > CASES     COUNT random cases of at most LIMIT nodes (1 to 4096);
+                                                         the hand-worked ones of oracle/worked.txt first
+       oracle answer [worked] < CASES                    a line for each ask; of the hand-worked ones the answer that
+                                                         is written there
+       oracle tables SEED COUNT LIMIT [first] > TABLES   COUNT random tables for the report; its own cases first
+       oracle report < TABLES                            the report of each table";
 
 fn usage() -> ! {
-    eprintln!("usage: oracle make SEED COUNT LIMIT [worked | reports] > CASES    COUNT cases of at most LIMIT nodes (1 to 4096),");
-    eprintln!("                                                                  the worked net's or the reports' first");
-    eprintln!("       oracle answer < CASES                                      twelve lines for each case");
-    eprintln!("       oracle report < CASES                                      the report of each case's table");
+    eprintln!("{USAGE}");
     std::process::exit(2)
+}
+
+fn fail(why: &str) -> ! {
+    eprintln!("oracle: {why}");
+    std::process::exit(1)
+}
+
+/// Seed, count, limit, and whether the word that may follow stands there.
+fn asked(args: &mut impl Iterator<Item = String>, word: &str) -> (u64, usize, usize, bool) {
+    let mut number = || args.next().and_then(|a| a.parse().ok()).unwrap_or_else(|| usage());
+    let (seed, count, limit) = (number(), number() as usize, number() as usize);
+    if !(1..=4096).contains(&limit) {
+        usage();
+    }
+    (seed, count, limit, is(args, word))
+}
+
+fn is(args: &mut impl Iterator<Item = String>, word: &str) -> bool {
+    match args.next() {
+        None => false,
+        Some(w) if w == word => true,
+        Some(_) => usage(),
+    }
+}
+
+/// The hand-worked cases with their lines.
+fn worked() -> Vec<(Case, Vec<String>)> {
+    let read = || worked::read()?.into_iter().map(|w| Ok((w.lines()?, w))).collect::<std::result::Result<Vec<_>, _>>();
+    let all: std::result::Result<_, String> = read();
+    all.unwrap_or_else(|why| fail(&why)).into_iter().map(|(lines, w)| (w.case, lines)).collect()
+}
+
+fn make(seed: u64, count: usize, limit: usize, with_worked: bool) -> Vec<Case> {
+    let mut random: Vec<Case> = make::random_cases(seed, count, limit).into_iter().map(|p| p.case()).collect();
+    if !with_worked {
+        return random;
+    }
+    if let Some(first) = random.first_mut() {
+        first.text = "\nRandom cases, twelve lines each.\n".to_string();
+    }
+    let mut all: Vec<Case> = worked().into_iter().map(|(case, _)| case).collect();
+    all.append(&mut random);
+    all
+}
+
+fn answer(out: &mut impl Write, with_worked: bool) -> Result<()> {
+    let cases = cases::read(&mut BufReader::new(stdin().lock()))?;
+    let known = if with_worked { worked() } else { vec![] };
+    if known.len() > cases.len() || known.iter().zip(&cases).any(|((k, _), c)| k != c) {
+        fail("the cases do not begin with those of oracle/worked.txt as it stands");
+    }
+    for (i, c) in cases.iter().enumerate() {
+        write!(out, "{}", c.text)?;
+        let lines = if i < known.len() { known[i].1.clone() } else { c.lines() };
+        for line in lines {
+            writeln!(out, "{line}")?;
+        }
+    }
+    Ok(())
 }
 
 fn main() -> Result<()> {
@@ -23,26 +88,19 @@ fn main() -> Result<()> {
     let mut out = BufWriter::new(stdout().lock());
     match args.next().as_deref() {
         Some("make") => {
-            let (seed, count, limit) = (number(args.next()), number(args.next()), number(args.next()));
-            if !(1..=4096).contains(&limit) {
-                usage();
-            }
-            let first = match args.next().as_deref() {
-                None => Vec::new(),
-                Some("worked") => make::worked(),
-                Some("reports") => make::reports(),
-                Some(_) => usage(),
-            };
-            cases::write(&mut out, &make::cases(seed, count as usize, limit as usize, first))?;
+            let (seed, count, limit, with_worked) = asked(&mut args, "worked");
+            cases::write(&mut out, &make(seed, count, limit, with_worked))?;
         }
-        Some("answer") => {
-            for c in cases::read(&mut BufReader::new(stdin().lock()))? {
-                cases::answer(&mut out, &c)?;
-            }
+        Some("answer") => answer(&mut out, is(&mut args, "worked"))?,
+        Some("tables") => {
+            let (seed, count, limit, own) = asked(&mut args, "first");
+            let mut all = if own { reports::first() } else { vec![] };
+            all.extend(make::random_cases(seed, count, limit));
+            reports::write(&mut out, &all)?;
         }
         Some("report") => {
-            for c in cases::read(&mut BufReader::new(stdin().lock()))? {
-                cases::report(&mut out, &c)?;
+            for table in reports::read(&mut BufReader::new(stdin().lock()))? {
+                reports::report(&mut out, &table)?;
             }
         }
         _ => usage(),

@@ -1,132 +1,7 @@
-//! Cases: the worked net of document 01, then random ones, some damaged.
-use crate::cases::{Case, Floor};
+//! Random cases, some damaged.
 use crate::net::{self, Net};
+use crate::plain::{table, Branch, Plain};
 use crate::random::Random;
-
-/// Two nodes, length, weight.
-type Branch = (u16, u16, u32, i32);
-
-pub fn table(n: u16, bound: u32, rows: &[Branch]) -> Vec<u8> {
-    let mut t = b"RTN\x01\x00".to_vec();
-    t.extend(n.to_le_bytes());
-    t.push(0);
-    t.extend(bound.to_le_bytes());
-    for (a, b, length, weight) in rows {
-        t.extend(a.to_le_bytes());
-        t.extend(b.to_le_bytes());
-        t.extend(length.to_le_bytes());
-        t.extend(weight.to_le_bytes());
-    }
-    t
-}
-
-fn plain(table: Vec<u8>, marks: &[u16]) -> Case {
-    let heads = u16::from_le_bytes([table[5], table[6]]).min(4_200);
-    Case { table, marks: marks.to_vec(), run: 7, other: 8, a: 2, b: 3, start: (0, 0), room: 160, heads, floor: Floor::Number(7) }
-}
-
-const N5: [Branch; 4] = [(0, 1, 4, 5), (1, 2, 3, 2), (1, 3, 6, 7), (3, 4, 2, -3)];
-
-/// Small nets for pairs of exactly B (document 02, Req 02): all lengths 0, so that all pairs tie; lengths and weights alike along
-/// a chain; branches of length 0 among others; and a star whose heaviest leaf is too near for the pair of exactly B.
-fn exact() -> Vec<Case> {
-    let of = |n: u16, bound: u32, rows: &[Branch]| {
-        Case { room: 320, floor: Floor::Least, ..plain(table(n, bound, rows), &vec![0; n as usize - 1]) }
-    };
-    let star: Vec<Branch> = (1..6).map(|x| (0, x, 0, 2)).collect();
-    let chain: Vec<Branch> = (1..7).map(|x| (x - 1, x, 1, 2)).collect();
-    let mixed = [(0, 1, 1, 3), (1, 2, 0, -1), (2, 3, 0, 1), (3, 4, 1, 3), (4, 5, 0, -3), (2, 6, 1, 3)];
-    let near = [(0, 1, 1, 9), (0, 2, 2, 1), (0, 3, 3, 1), (0, 4, 2, 1)];
-    let mut all = vec![of(6, 0, &star), of(6, 1, &star), of(7, 2, &chain)];
-    all.extend([0, 1, 2].iter().map(|b| of(7, *b, &mixed)));
-    all.extend([4, 5, 6].iter().map(|b| of(5, *b, &near)));
-    all
-}
-
-/// Nets with rings (document 02, Req 03): of two rows, either way round; of three, with a branch apart; in a far part;
-/// of all rows, closed by the last; two rings, of which the first to close is told, once the longer and once the
-/// shorter; and one with rows that hang from it, lead to it and follow it.
-fn rings() -> Vec<Vec<Branch>> {
-    let of = |ends: &[(u16, u16)]| ends.iter().map(|(a, b)| (*a, *b, 3, 2)).collect();
-    vec![
-        of(&[(0, 1), (0, 1), (1, 3), (3, 4)]),
-        of(&[(0, 1), (1, 2), (1, 0), (3, 4)]),
-        of(&[(0, 1), (1, 2), (2, 0), (3, 4)]),
-        of(&[(0, 1), (2, 3), (3, 4), (4, 2)]),
-        of(&[(4, 3), (1, 0), (3, 2), (0, 2), (1, 4)]),
-        of(&[(0, 1), (1, 2), (2, 0), (1, 0)]),
-        of(&[(0, 1), (1, 0), (1, 2), (2, 0)]),
-        of(&[(0, 1), (1, 2), (1, 3), (3, 4), (4, 5), (2, 6), (4, 2), (7, 8)]),
-    ]
-}
-
-fn ringed(rows: Vec<Branch>) -> Vec<u8> {
-    table(rows.len() as u16 + 1, 8, &rows)
-}
-
-/// Document 01's small net N5, each of its cases, Req 02's and Req 03's.
-pub fn worked() -> Vec<Case> {
-    let n5 = |bound| plain(table(5, bound, &N5), &[0; 4]);
-    let mut all: Vec<Case> = [9, 8, 10, 2, 1, 7, 5].iter().map(|b| n5(*b)).collect();
-    all.push(Case { floor: Floor::Number(10), ..n5(9) });
-    // Pairs of exactly B, by their weights: 0-2 has 7, 1-4 has 4, 2-3 has 9.
-    for (bound, floor) in [(7, 7), (7, 8), (8, 4), (8, 5), (9, 9), (9, 10), (5, -9)] {
-        all.push(Case { floor: Floor::Number(floor), ..n5(bound) });
-    }
-    all.push(Case { room: 16, ..n5(9) });
-    all.push(Case { a: 2, b: 4, ..n5(9) });
-    all.push(Case { run: 8, a: 1, b: 3, marks: vec![0, 7, 7, 0], ..n5(9) });
-    all.push(Case { marks: vec![0, 7, 7, 0], ..n5(9) });
-    all.push(Case { a: 0, b: 3, ..n5(9) });
-    all.push(Case { a: 0, b: 3, marks: vec![5, 0, 5, 0], ..n5(9) });
-    all.push(Case { marks: vec![0, 0, 0, 5], ..n5(2) });
-    all.push(plain(table(1, 9, &[]), &[]));
-    let mut ring = N5;
-    ring[1] = (0, 1, 3, 2);
-    all.push(plain(table(5, 8, &ring), &[0; 4]));
-    all.push(plain(table(4097, 8, &N5), &[0; 4]));
-    for length in [1_000_000, 1_000_001] {
-        let mut long = N5;
-        long[2].2 = length;
-        all.push(plain(table(5, 8, &long), &[0; 4]));
-    }
-    all.extend(exact());
-    all.extend(rings().into_iter().map(|rows| plain(ringed(rows.clone()), &vec![0; rows.len()])));
-    all
-}
-
-/// For the report: document 01's own, a refusal of each sort, a ring, all weights negative, one node, the largest numbers, and
-/// ties over several pages (`room` is a page's bytes) and over more lines than a buffer of text has.
-pub fn reports() -> Vec<Case> {
-    let of = |table: Vec<u8>, room| Case { table, marks: vec![], room, ..plain(table_of_five(8), &[]) };
-    let star = |n: u16, bound, weight| table(n, bound, &(1..n).map(|x| (0, x, 0, weight)).collect::<Vec<_>>());
-    let mut all: Vec<Case> = [8, 9, 10, 2, 1].iter().map(|b| of(table_of_five(*b), 160)).collect();
-    let mut ring = N5;
-    ring[1] = (0, 1, 3, 2);
-    all.push(of(table(5, 8, &ring), 16));
-    all.extend(rings().into_iter().map(|rows| of(ringed(rows), 16)));
-    all.push(of(table(1, 9, &[]), 16));
-    all.push(of(vec![], 16));
-    all.push(of(table_of_five(8)[..48].to_vec(), 16));
-    all.push(of(table(4097, 8, &N5), 16));
-    all.push(of(table(3, 8, &[(0, 1, 3, 2), (1, 3, 3, 2)]), 16));
-    all.push(of(table(3, 8, &[(0, 1, 3, 2), (1, 2, 1_000_001, 2)]), 16));
-    all.push(of(table(4, 9, &[(0, 1, 4, -5), (1, 2, 5, -5), (1, 3, 4, -6)]), 16));
-    all.push(of(table(3, u32::MAX, &[(2, 1, 1_000_000, -1_000_000), (1, 0, 1_000_000, -1_000_000)]), 16));
-    let far: Vec<Branch> = (1..60).map(|x| (x - 1, x, 1_000_000, 1_000_000)).collect();
-    all.push(of(table(60, u32::MAX, &far), 16));
-    for room in [0, 16, 33, 95, 96, 160] {
-        all.push(of(star(4, 0, 0), room));
-    }
-    all.push(of(star(5, 0, -7), 32));
-    all.push(of(star(40, 0, 0), 9_600));
-    all.push(of(star(40, 0, 0), 11_216));
-    all
-}
-
-fn table_of_five(bound: u32) -> Vec<u8> {
-    table(5, bound, &N5)
-}
 
 /// The parent of each node but 0, by shape.
 fn shape(r: &mut Random, n: usize) -> Vec<usize> {
@@ -237,7 +112,7 @@ fn damage(r: &mut Random, t: &mut Vec<u8>, n: usize) {
     }
 }
 
-fn random(r: &mut Random, limit: usize) -> Case {
+fn random(r: &mut Random, limit: usize) -> Plain {
     let n = match r.below(8) {
         0 => 1 + r.below(limit.min(4)),
         1 => limit - r.below(limit.min(3)),
@@ -269,15 +144,15 @@ fn random(r: &mut Random, limit: usize) -> Case {
     let mut t = table(n as u16, bound, &rows);
 
     let floor = match r.below(8) {
-        0 => Floor::Least,
-        1 => Floor::Greatest,
-        2 => Floor::Number(weight + 1),
-        3 => Floor::Number(r.pick(&[0, 1, -1, 4_095_000_000, -4_095_000_000, -(1 << 33), (1 << 33) - 1])),
+        0 => i64::MIN,
+        1 => i64::MAX,
+        2 => weight + 1,
+        3 => r.pick(&[0, 1, -1, 4_095_000_000, -4_095_000_000, -(1 << 33), (1 << 33) - 1]),
         4 | 5 => match net::heaviest(&t, &marks) {
-            Ok(best) => Floor::Number(best.3),
-            Err(_) => Floor::Number(0),
+            Ok(best) => best.3,
+            Err(_) => 0,
         },
-        _ => Floor::Number(weight),
+        _ => weight,
     };
     let any = |r: &mut Random| match r.below(24) {
         0 => n as u16,
@@ -309,7 +184,7 @@ fn random(r: &mut Random, limit: usize) -> Case {
             damage_again(r, &mut t);
         }
     }
-    Case { table: t, marks, run, other, a, b, start, room, heads, floor }
+    Plain { table: t, marks, run, other, a, b, start, room, heads, floor }
 }
 
 /// A second fault, so that the order of refusals shows.
@@ -320,13 +195,8 @@ fn damage_again(r: &mut Random, t: &mut Vec<u8>) {
     }
 }
 
-/// `count` cases: those that are to stand first, then random ones of at most `limit` nodes.
-pub fn cases(seed: u64, count: usize, limit: usize, first: Vec<Case>) -> Vec<Case> {
+/// `count` random cases of at most `limit` nodes.
+pub fn random_cases(seed: u64, count: usize, limit: usize) -> Vec<Plain> {
     let mut r = Random(seed);
-    let mut all = first;
-    all.truncate(count);
-    while all.len() < count {
-        all.push(random(&mut r, limit));
-    }
-    all
+    (0..count).map(|_| random(&mut r, limit)).collect()
 }

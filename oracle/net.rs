@@ -62,8 +62,8 @@ fn between(n: usize, rows: &[Row], ends: [usize; 2]) -> usize {
     }
 }
 
-/// Refusals 1 to 12, in document 01's order.
-pub fn accept(s: &[u8]) -> Result<Net, Refused> {
+/// Refusals 1 to 6, in document 01's order; then the node count and the bound.
+pub fn open(s: &[u8]) -> Result<(usize, u64), Refused> {
     if s.len() < 12 {
         return Err(refused(1, 0));
     }
@@ -83,6 +83,12 @@ pub fn accept(s: &[u8]) -> Result<Net, Refused> {
     if s.len() != 12 * n {
         return Err(refused(6, 0));
     }
+    Ok((n, u32_at(s, 8) as u64))
+}
+
+/// Then 7 to 10, row by row.
+pub fn examine(s: &[u8]) -> Result<(usize, u64, Vec<Row>), Refused> {
+    let (n, bound) = open(s)?;
     let mut rows = Vec::new();
     for r in 0..n - 1 {
         let at = 12 + 12 * r;
@@ -103,6 +109,12 @@ pub fn accept(s: &[u8]) -> Result<Net, Refused> {
         }
         rows.push(Row { ends, length, weight });
     }
+    Ok((n, bound, rows))
+}
+
+/// Then 11 and 12.
+pub fn accept(s: &[u8]) -> Result<Net, Refused> {
+    let (n, bound, rows) = examine(s)?;
     // Nodes that the rows so far join have one label.
     let mut label: Vec<usize> = (0..n).collect();
     for (r, row) in rows.iter().enumerate() {
@@ -124,7 +136,24 @@ pub fn accept(s: &[u8]) -> Result<Net, Refused> {
         beside[row.ends[0]].push((r, row.ends[1]));
         beside[row.ends[1]].push((r, row.ends[0]));
     }
-    Ok(Net { n, bound: u32_at(s, 8) as u64, rows, beside })
+    Ok(Net { n, bound, rows, beside })
+}
+
+/// What a step of the row reader hands back at a row, of the bytes that it holds: 12 from place 12 + 12 × row on; none
+/// where fewer stand there.
+pub fn part(held: &[u8], row: u64) -> &[u8] {
+    let at = 12 + 12 * row as u128;
+    if at + 12 <= held.len() as u128 { &held[at as usize..at as usize + 12] } else { &[] }
+}
+
+/// Where the reader stands after that step.
+pub fn next(held: &[u8], row: u64) -> u64 {
+    if part(held, row).is_empty() { row } else { row + 1 }
+}
+
+/// The first step of a reader opened on a table: a refused opening holds nothing.
+pub fn first(s: &[u8]) -> &[u8] {
+    part(if open(s).is_ok() { s } else { &[] }, 0)
 }
 
 impl Net {

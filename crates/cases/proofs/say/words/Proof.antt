@@ -1,15 +1,18 @@
--- `sum_words` reads the numbers one after the other, and ends with them.
+-- `words` reads the numbers one after the other, and ends with them.
 use Prim.Native.Nat.{_-_, _≤_}
 use lib.ListN.{length}
 use native.Mathlib.Omega.{arith}
-use Rattle.trees.proofs.say.sum_words.Statement.{statement}
-use Rattle.trees.proofs.say.sum_words.Tie as tie
+use Rattle.cases.proofs.say.words.Statement.{statement}
+use Rattle.cases.proofs.say.words.Tie as tie
 
 abbrev Inv-loop : tie.InvT-loop
-Inv-loop m s₀ i₀ s i = i ≤ length m
+Inv-loop m shown s₀ i₀ s i = i ≤ length m
 
 abbrev μ-loop : tie.MeasureT-loop
-μ-loop m s₀ i₀ s i = length m - i
+μ-loop m shown s₀ i₀ s i = length m - i
+
+begun-requires : tie.Need-begun-requires Inv-loop μ-loop
+begun-requires c κs = tt
 
 loop-holds : tie.Need-loop-holds Inv-loop μ-loop
 loop-holds c = omega arith
@@ -41,7 +44,20 @@ sum-requires c κs = tt
 returns : tie.Need-returns Inv-loop μ-loop
 returns c = tt
 
-pub sum-words-spec : {M : Type 1} → statement M
-sum-words-spec =
+pub words-spec : {M : Type 1} → statement M
+words-spec =
     tie.close
-    (tie.spec Inv-loop μ-loop loop-holds mul-long shared-slice-read-long long-requires more-requires add-i loop-less loop-again sum-requires returns)
+    (tie.spec
+    Inv-loop
+    μ-loop
+    begun-requires
+    loop-holds
+    mul-long
+    shared-slice-read-long
+    long-requires
+    more-requires
+    add-i
+    loop-less
+    loop-again
+    sum-requires
+    returns)

@@ -1,22 +1,22 @@
--- `take_marks` fills its list from the front, and ends with it: a store keeps the length.
+-- `marks` fills its list from the front, and ends with it: a store keeps the length.
 use Prim.Native.Nat.{_-_, _≤_}
 use mathlib.Core.Path.{_≡_}
 use lib.ListN.{length, length-set}
 use native.Mathlib.Omega.{arith}
-use Rattle.trees.proofs.take_marks.Statement.{statement}
-use Rattle.trees.proofs.take_marks.Tie as tie
+use Rattle.cases.proofs.read.marks.Statement.{statement}
+use Rattle.cases.proofs.read.marks.Tie as tie
 
 abbrev Inv-loop : tie.InvT-loop
-Inv-loop bytes marks₀ i₀ marks i = (i ≤ length marks₀) × (length marks ≡ length marks₀)
+Inv-loop marks₀ i₀ marks i = (i ≤ length marks₀) × (length marks ≡ length marks₀)
 
 abbrev μ-loop : tie.MeasureT-loop
-μ-loop bytes marks₀ i₀ marks i = length marks₀ - i
+μ-loop marks₀ i₀ marks i = length marks₀ - i
 
 loop-holds : tie.Need-loop-holds Inv-loop μ-loop
 loop-holds c = (omega arith, omega arith)
 
-mark-at-requires : tie.Need-mark-at-requires Inv-loop μ-loop
-mark-at-requires c κs = tt
+number-requires : tie.Need-number-requires Inv-loop μ-loop
+number-requires c κs = tt
 
 mul-marks : tie.Need-mul-marks Inv-loop μ-loop
 mul-marks c = omega arith
@@ -39,7 +39,18 @@ same-length c = c .before .loop .inv .1
 returns : tie.Need-returns Inv-loop μ-loop
 returns c = tt
 
-pub take-marks-spec : {M : Type 1} → statement M
-take-marks-spec =
+pub marks-spec : {M : Type 1} → statement M
+marks-spec =
     tie.close
-    (tie.spec Inv-loop μ-loop loop-holds mark-at-requires mul-marks slice-write-marks add-i loop-less loop-again same-length returns)
+    (tie.spec
+    Inv-loop
+    μ-loop
+    loop-holds
+    number-requires
+    mul-marks
+    slice-write-marks
+    add-i
+    loop-less
+    loop-again
+    same-length
+    returns)

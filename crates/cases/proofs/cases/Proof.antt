@@ -1,8 +1,8 @@
 -- `cases` ends: one case less is left at each turn.
 use Prim.Native.Nat.{_-_, _≤_}
 use native.Mathlib.Omega.{arith}
-use Rattle.trees.proofs.cases.Statement.{statement}
-use Rattle.trees.proofs.cases.Tie as tie
+use Rattle.cases.proofs.cases.Statement.{statement}
+use Rattle.cases.proofs.cases.Tie as tie
 
 abbrev Inv-loop : tie.InvT-loop
 Inv-loop count i₀ i = i ≤ count

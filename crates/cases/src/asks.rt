@@ -1,0 +1,190 @@
+// The operations: what an ask calls, and its answer as fields. A new operation is a code and an arm here, and where its
+// answer is of a new sort a function that makes it fields.
+use crate::read;
+use crate::read::Ask;
+use crate::say;
+use crate::say::Answer;
+use answers::Listed;
+use answers::PairAnswer;
+use answers::Run;
+use marks::Change;
+use spines::HeadsAnswer;
+use table::Opening;
+use tree::Acceptance;
+
+fn opened(o: Opening) -> Answer {
+    match o {
+        Opening::Refused(why) => Answer {
+            number: why.number as u64,
+            row: why.row as u64,
+            ring: 0,
+            fields: [0, 0, 0, 0],
+            many: 2,
+            weight: 4,
+        },
+        Opening::Opened { nodes, bound } => say::fine(2, nodes as u64, bound as u64),
+    }
+}
+
+fn accepted(o: Acceptance) -> Answer {
+    match o {
+        Acceptance::Refused(why) => say::refused(why, 2),
+        Acceptance::Accepted { nodes, bound } => say::fine(2, nodes as u64, bound as u64),
+    }
+}
+
+fn found(o: PairAnswer) -> Answer {
+    match o {
+        PairAnswer::Refused(why) => say::refused(why, 3),
+        PairAnswer::Found {
+            length,
+            weight,
+            hops,
+        } => Answer {
+            number: 0,
+            row: 0,
+            ring: 0,
+            fields: [length as u64, pages::raised(weight), hops as u64, 0],
+            many: 3,
+            weight: 1,
+        },
+    }
+}
+
+fn between(o: Run) -> Answer {
+    match o {
+        Run::Refused(why) => say::refused(why, 4),
+        Run::Between {
+            low,
+            high,
+            length,
+            weight,
+        } => Answer {
+            number: 0,
+            row: 0,
+            ring: 0,
+            fields: [
+                low as u64,
+                high as u64,
+                length as u64,
+                pages::raised(weight),
+            ],
+            many: 4,
+            weight: 3,
+        },
+    }
+}
+
+fn listed(o: Listed) -> Answer {
+    match o {
+        Listed::Refused(why) => say::refused(why, 2),
+        Listed::Rows { written, left } => say::fine(2, written as u64, left as u64),
+    }
+}
+
+fn headed(o: HeadsAnswer) -> Answer {
+    match o {
+        HeadsAnswer::Refused(why) => say::refused(why, 0),
+        HeadsAnswer::Written => say::fine(0, 0, 0),
+    }
+}
+
+fn changed(o: Change) -> Answer {
+    match o {
+        Change::Refused(why) => say::refused(why, 1),
+        Change::Changed(k) => say::fine(1, k as u64, 0),
+    }
+}
+
+// A signed number from its 64 bits.
+fn signed(x: u64) -> i64 {
+    if x < 9223372036854775808 {
+        return x as i64;
+    }
+    let m = (18446744073709551615 - x) as i64;
+    -1 - m
+}
+
+// The table's own functions. A row number is any that 64 bits hold.
+fn of_table(t: &[u8], q: Ask) {
+    let code = q.code;
+    let row = q.x as usize;
+    let shown = q.shown;
+    match code {
+        1 => say::line(opened(table::open_table(t))),
+        2 => say::line(opened(table::examine(t))),
+        3 => say::bytes(say::fine(0, 0, 0), table::row_part(t, row), shown),
+        4 => say::line(say::fine(1, table::next_row(t, row) as u64, 0)),
+        _ => say::bytes(say::fine(0, 0, 0), table::first_row(t), shown),
+    }
+}
+
+// Those that lend nothing and change nothing.
+fn of_net(t: &[u8], marks: &[u16], q: Ask) -> Answer {
+    let code = q.code;
+    match code {
+        17 => accepted(tree::accept(t)),
+        18 => found(answers::pair(t, marks, q.a, q.b)),
+        19 => between(answers::heaviest(t, marks)),
+        _ => between(answers::heaviest_exact(t, marks)),
+    }
+}
+
+fn page(t: &[u8], marks: &[u16], q: Ask, rows: &mut [u8]) -> Answer {
+    let code = q.code;
+    let floor = signed(q.x);
+    match code {
+        33 => listed(answers::listing(t, marks, floor, q.a, q.b, rows)),
+        _ => listed(answers::listing_exact(t, marks, floor, q.a, q.b, rows)),
+    }
+}
+
+// A page of as many bytes as are lent, each of which held 165.
+fn of_rows(t: &[u8], marks: &[u16], q: Ask) {
+    let size = q.lent;
+    let mut space = [165u8; 65536];
+    let whole = &mut space[..];
+    if size <= whole.len() {
+        let rows = &mut whole[0..size];
+        let a = page(t, marks, q, rows);
+        say::bytes(a, rows, q.shown);
+    }
+}
+
+// A list of as many heads as are lent, each of which held 165.
+fn of_heads(t: &[u8], q: Ask) {
+    let size = q.lent;
+    let mut space = [165u16; 4200];
+    let whole = &mut space[..];
+    if size <= whole.len() {
+        let list = &mut whole[0..size];
+        let a = headed(spines::heads(t, list));
+        say::words(a, list, q.shown);
+    }
+}
+
+fn change(t: &[u8], marks: &mut [u16], q: Ask) -> Answer {
+    let code = q.code;
+    match code {
+        65 => changed(marks::claim(t, marks, q.run, q.a, q.b)),
+        66 => changed(marks::commit(t, marks, q.run)),
+        _ => changed(marks::abort(t, marks, q.run)),
+    }
+}
+
+fn of_marks(t: &[u8], marks: &mut [u16], q: Ask) {
+    let a = change(t, marks, q);
+    say::words(a, marks, q.shown);
+}
+
+pub(crate) fn answer(t: &[u8], marks: &mut [u16], q: Ask) {
+    read::text(q.text);
+    let sort = q.code / 16;
+    match sort {
+        0 => of_table(t, q),
+        1 => say::line(of_net(t, marks, q)),
+        2 => of_rows(t, marks, q),
+        3 => of_heads(t, q),
+        _ => of_marks(t, marks, q),
+    }
+}

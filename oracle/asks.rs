@@ -1,0 +1,136 @@
+//! An ask: an operation and its numbers; what it answers; its line (README.md has the form of both).
+use crate::net::{self, Lengths, Refused};
+
+/// What every lent byte and every lent head holds before a call.
+pub const LENT: u8 = 165;
+
+#[derive(Clone, Copy, PartialEq, Debug)]
+pub enum Op {
+    Open,
+    Examine,
+    RowPart,
+    NextRow,
+    FirstRow,
+    Accept,
+    Pair,
+    Heaviest,
+    HeaviestExact,
+    Listing,
+    ListingExact,
+    Heads,
+    Claim,
+    Commit,
+    Abort,
+}
+
+/// Each operation's code in an ask.
+pub const CODES: [(Op, u16); 15] = [
+    (Op::Open, 1),
+    (Op::Examine, 2),
+    (Op::RowPart, 3),
+    (Op::NextRow, 4),
+    (Op::FirstRow, 5),
+    (Op::Accept, 17),
+    (Op::Pair, 18),
+    (Op::Heaviest, 19),
+    (Op::HeaviestExact, 20),
+    (Op::Listing, 33),
+    (Op::ListingExact, 34),
+    (Op::Heads, 49),
+    (Op::Claim, 65),
+    (Op::Commit, 66),
+    (Op::Abort, 67),
+];
+
+/// The text is what its line begins with. `lent` is how many bytes or heads are lent, `shown` how many elements of the
+/// lent memory the line shows; a and b are two nodes or a starting pair, x a row number or a floor's 64 bits.
+#[derive(Clone, PartialEq, Debug)]
+pub struct Ask {
+    pub op: Op,
+    pub text: String,
+    pub lent: u16,
+    pub shown: u16,
+    pub run: u16,
+    pub a: u16,
+    pub b: u16,
+    pub x: u64,
+}
+
+/// What an ask is answered: number, row and ring (0 where nothing is refused), the operation's fields (0 in a refusal),
+/// and the lent memory after the call where some is lent (the part of the table where one is handed back).
+#[derive(PartialEq, Debug)]
+pub struct Said {
+    pub refusal: [u64; 3],
+    pub fields: Vec<i128>,
+    pub memory: Option<Vec<u16>>,
+}
+
+impl Ask {
+    pub fn new(op: Op, text: &str) -> Ask {
+        Ask { op, text: text.to_string(), lent: 0, shown: 0, run: 0, a: 0, b: 0, x: 0 }
+    }
+
+    /// How many fields the operation's answer has.
+    pub fn many(&self) -> usize {
+        match self.op {
+            Op::RowPart | Op::FirstRow | Op::Heads => 0,
+            Op::NextRow | Op::Claim | Op::Commit | Op::Abort => 1,
+            Op::Open | Op::Examine | Op::Accept | Op::Listing | Op::ListingExact => 2,
+            Op::Pair => 3,
+            Op::Heaviest | Op::HeaviestExact => 4,
+        }
+    }
+
+    /// The line that says an answer.
+    pub fn line(&self, said: &Said) -> String {
+        let mut line = self.text.clone();
+        let mut add = |word: String| line += &format!(" {word}");
+        said.refusal.iter().for_each(|x| add(x.to_string()));
+        said.fields.iter().for_each(|x| add(x.to_string()));
+        if let Some(memory) = &said.memory {
+            add("now".to_string());
+            memory.iter().take(self.shown as usize).for_each(|x| add(x.to_string()));
+            add(format!("sum {}", memory.iter().fold(1, |s, x| (s * 257 + *x as u64) % 4_294_967_291)));
+        }
+        line
+    }
+
+    /// What the documents say to it. Claim, commit and abort change the marks.
+    pub fn answer(&self, t: &[u8], marks: &mut [u16]) -> Said {
+        let mut rows = vec![LENT; self.lent as usize];
+        let mut heads = vec![LENT as u16; self.lent as usize];
+        let wide = |bytes: &[u8]| Some(bytes.iter().map(|b| *b as u16).collect());
+        let run = |(a, b, length, weight)| vec![a as i128, b as i128, length as i128, weight as i128];
+        let mut page = |lengths| net::listing(t, marks, lengths, self.x as i64, (self.a, self.b), &mut rows);
+        let fields = match self.op {
+            Op::Open => net::open(t).map(|(n, bound)| vec![n as i128, bound as i128]),
+            Op::Examine => net::examine(t).map(|(n, bound, _)| vec![n as i128, bound as i128]),
+            Op::RowPart | Op::FirstRow => Ok(vec![]),
+            Op::NextRow => Ok(vec![net::next(t, self.x) as i128]),
+            Op::Accept => net::accept(t).map(|net| vec![net.n as i128, net.bound as i128]),
+            Op::Pair => net::pair(t, marks, self.a, self.b).map(|(l, w, h)| vec![l as i128, w as i128, h as i128]),
+            Op::Heaviest => net::heaviest(t, marks).map(run),
+            Op::HeaviestExact => net::heaviest_exact(t, marks).map(run),
+            Op::Listing => page(Lengths::AtMost).map(|(written, left)| vec![written as i128, left as i128]),
+            Op::ListingExact => page(Lengths::Exactly).map(|(written, left)| vec![written as i128, left as i128]),
+            Op::Heads => net::heads(t, &mut heads).map(|_| vec![]),
+            Op::Claim => net::claim(t, marks, self.run, self.a, self.b).map(|k| vec![k as i128]),
+            Op::Commit => net::settle(t, marks, self.run, 65535).map(|k| vec![k as i128]),
+            Op::Abort => net::settle(t, marks, self.run, 0).map(|k| vec![k as i128]),
+        };
+        let memory = match self.op {
+            Op::RowPart => wide(net::part(t, self.x)),
+            Op::FirstRow => wide(net::first(t)),
+            Op::Listing | Op::ListingExact => wide(&rows),
+            Op::Heads => Some(heads),
+            Op::Claim | Op::Commit | Op::Abort => Some(marks.to_vec()),
+            _ => None,
+        };
+        match fields {
+            Ok(fields) => Said { refusal: [0; 3], fields, memory },
+            Err(Refused { number, row, ring }) => {
+                Said { refusal: [number as u64, row as u64, ring as u64], fields: vec![0; self.many()], memory }
+            }
+        }
+    }
+}

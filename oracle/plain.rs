@@ -1,0 +1,78 @@
+//! A table with marks and one number of each sort, about which every operation is asked: what a random case is made of.
+use crate::asks::{Ask, Op};
+use crate::cases::Case;
+
+/// Two nodes, length, weight.
+pub type Branch = (u16, u16, u32, i32);
+
+#[derive(Clone)]
+pub struct Plain {
+    pub table: Vec<u8>,
+    pub marks: Vec<u16>,
+    /// Claims and aborts.
+    pub run: u16,
+    /// Commits.
+    pub other: u16,
+    /// Two nodes, for pair and claim.
+    pub a: u16,
+    pub b: u16,
+    /// The listings' starting pair.
+    pub start: (u16, u16),
+    /// Bytes lent for rows.
+    pub room: u16,
+    /// Heads lent.
+    pub heads: u16,
+    pub floor: i64,
+}
+
+pub fn table(n: u16, bound: u32, rows: &[Branch]) -> Vec<u8> {
+    let mut t = b"RTN\x01\x00".to_vec();
+    t.extend(n.to_le_bytes());
+    t.push(0);
+    t.extend(bound.to_le_bytes());
+    for (a, b, length, weight) in rows {
+        t.extend(a.to_le_bytes());
+        t.extend(b.to_le_bytes());
+        t.extend(length.to_le_bytes());
+        t.extend(weight.to_le_bytes());
+    }
+    t
+}
+
+/// With the numbers that the worked net is asked about.
+pub fn plain(table: Vec<u8>, marks: &[u16]) -> Plain {
+    let heads = u16::from_le_bytes([table[5], table[6]]).min(4_200);
+    Plain { table, marks: marks.to_vec(), run: 7, other: 8, a: 2, b: 3, start: (0, 0), room: 160, heads, floor: 7 }
+}
+
+impl Plain {
+    /// The twelve asks: every operation on the table and its marks as they come, then the changes of the marks and what
+    /// is said of them then.
+    pub fn twelve(&self) -> Vec<Ask> {
+        let of = |op, text: &str| Ask::new(op, &format!("{text}:"));
+        let pair = |op, text| Ask { a: self.a, b: self.b, ..of(op, text) };
+        let page = |op, text| {
+            let (a, b) = self.start;
+            Ask { a, b, lent: self.room, x: self.floor as u64, ..of(op, text) }
+        };
+        vec![
+            of(Op::Accept, "accept"),
+            pair(Op::Pair, "pair"),
+            of(Op::Heaviest, "heaviest"),
+            of(Op::HeaviestExact, "heaviest exact"),
+            Ask { lent: self.heads, ..of(Op::Heads, "heads") },
+            page(Op::Listing, "listing"),
+            page(Op::ListingExact, "listing exact"),
+            Ask { run: self.run, ..pair(Op::Claim, "claim") },
+            of(Op::Heaviest, "heaviest"),
+            Ask { run: self.other, ..of(Op::Commit, "commit") },
+            Ask { run: self.run, ..of(Op::Abort, "abort") },
+            pair(Op::Pair, "pair"),
+        ]
+    }
+
+    pub fn case(self) -> Case {
+        let asks = self.twelve();
+        Case { text: String::new(), table: self.table, marks: self.marks, asks }
+    }
+}

@@ -1,0 +1,134 @@
+//! The reports: tables in the form that crates/reports reads, the cases that stand first there, and the report of each.
+use crate::net;
+use crate::plain::{plain, table, Branch, Plain};
+use std::io::{Read, Result, Write};
+
+pub fn write(out: &mut impl Write, cases: &[Plain]) -> Result<()> {
+    out.write_all(&(cases.len() as u32).to_le_bytes())?;
+    for c in cases {
+        let (kind, lifted) = match c.floor {
+            i64::MIN => (1u16, 0),
+            i64::MAX => (2, 0),
+            z => (0, (z + (1 << 33)) as u64),
+        };
+        assert!(lifted < 1 << 34 && c.table.len() <= 49_200 && c.marks.len() <= 4_200 && c.heads <= 4_200);
+        let words = [
+            c.table.len() as u16,
+            c.marks.len() as u16,
+            c.run,
+            c.other,
+            c.a,
+            c.b,
+            c.start.0,
+            c.start.1,
+            c.room,
+            c.heads,
+            kind,
+        ];
+        for w in words {
+            out.write_all(&w.to_le_bytes())?;
+        }
+        out.write_all(&lifted.to_le_bytes())?;
+        out.write_all(&[0, 0])?;
+        out.write_all(&c.table)?;
+        for m in &c.marks {
+            out.write_all(&m.to_le_bytes())?;
+        }
+    }
+    Ok(())
+}
+
+/// The tables alone: a report depends on nothing else.
+pub fn read(input: &mut impl Read) -> Result<Vec<Vec<u8>>> {
+    let mut count = [0; 4];
+    input.read_exact(&mut count)?;
+    let mut tables = Vec::new();
+    for _ in 0..u32::from_le_bytes(count) {
+        let mut head = [0; 32];
+        input.read_exact(&mut head)?;
+        let size = |i: usize| u16::from_le_bytes([head[i], head[i + 1]]) as usize;
+        let mut table = vec![0; size(0)];
+        input.read_exact(&mut table)?;
+        let mut marks = vec![0; 2 * size(2)];
+        input.read_exact(&mut marks)?;
+        tables.push(table);
+    }
+    Ok(tables)
+}
+
+/// The report of a table, all branches free: its lines as documents 01 and 02 have them.
+pub fn report(out: &mut impl Write, t: &[u8]) -> Result<()> {
+    let free = |n: usize| vec![0; n - 1];
+    let found = net::accept(t).and_then(|net| Ok((net::heaviest(t, &free(net.n))?, net)));
+    let ((a, b, length, weight), net) = match found {
+        Ok(x) => x,
+        Err(why) if why.number == 11 => return writeln!(out, "refused 11 row {} ring {}", why.row, why.ring),
+        Err(why) => return writeln!(out, "refused {} row {}", why.number, why.row),
+    };
+    writeln!(out, "net {} bound {}", net.n, net.bound)?;
+    writeln!(out, "best {a} {b} length {length} weight {weight}")?;
+    let mut total = 0;
+    for a in 0..net.n {
+        let f = net.from(a, &free(net.n));
+        for b in (a + 1..net.n).filter(|b| f.length[*b] <= net.bound && f.weight[*b] == weight) {
+            writeln!(out, "pair {a} {b} {} {}", f.length[b], f.weight[b])?;
+            total += 1;
+        }
+    }
+    writeln!(out, "total {total}")
+}
+
+const N5: [Branch; 4] = [(0, 1, 4, 5), (1, 2, 3, 2), (1, 3, 6, 7), (3, 4, 2, -3)];
+
+fn n5(bound: u32) -> Vec<u8> {
+    table(5, bound, &N5)
+}
+
+/// Nets with rings (document 02, Req 03): of two rows, either way round; of three, with a branch apart; in a far part;
+/// of all rows, closed by the last; two rings, of which the first to close is told, once the longer and once the
+/// shorter; and one with rows that hang from it, lead to it and follow it.
+fn rings() -> Vec<Vec<u8>> {
+    let of = |ends: &[(u16, u16)]| {
+        let rows: Vec<Branch> = ends.iter().map(|(a, b)| (*a, *b, 3, 2)).collect();
+        table(rows.len() as u16 + 1, 8, &rows)
+    };
+    vec![
+        of(&[(0, 1), (0, 1), (1, 3), (3, 4)]),
+        of(&[(0, 1), (1, 2), (1, 0), (3, 4)]),
+        of(&[(0, 1), (1, 2), (2, 0), (3, 4)]),
+        of(&[(0, 1), (2, 3), (3, 4), (4, 2)]),
+        of(&[(4, 3), (1, 0), (3, 2), (0, 2), (1, 4)]),
+        of(&[(0, 1), (1, 2), (2, 0), (1, 0)]),
+        of(&[(0, 1), (1, 0), (1, 2), (2, 0)]),
+        of(&[(0, 1), (1, 2), (1, 3), (3, 4), (4, 5), (2, 6), (4, 2), (7, 8)]),
+    ]
+}
+
+/// Document 01's own, a refusal of each sort, a ring, all weights negative, one node, the largest numbers, and ties
+/// over several pages (`room` is a page's bytes) and over more lines than a buffer of text has.
+pub fn first() -> Vec<Plain> {
+    let of = |table: Vec<u8>, room| Plain { table, room, ..plain(n5(8), &[]) };
+    let star = |n: u16, bound, weight| table(n, bound, &(1..n).map(|x| (0, x, 0, weight)).collect::<Vec<_>>());
+    let mut all: Vec<Plain> = [8, 9, 10, 2, 1].iter().map(|b| of(n5(*b), 160)).collect();
+    let mut ring = N5;
+    ring[1] = (0, 1, 3, 2);
+    all.push(of(table(5, 8, &ring), 16));
+    all.extend(rings().into_iter().map(|t| of(t, 16)));
+    all.push(of(table(1, 9, &[]), 16));
+    all.push(of(vec![], 16));
+    all.push(of(n5(8)[..48].to_vec(), 16));
+    all.push(of(table(4097, 8, &N5), 16));
+    all.push(of(table(3, 8, &[(0, 1, 3, 2), (1, 3, 3, 2)]), 16));
+    all.push(of(table(3, 8, &[(0, 1, 3, 2), (1, 2, 1_000_001, 2)]), 16));
+    all.push(of(table(4, 9, &[(0, 1, 4, -5), (1, 2, 5, -5), (1, 3, 4, -6)]), 16));
+    all.push(of(table(3, u32::MAX, &[(2, 1, 1_000_000, -1_000_000), (1, 0, 1_000_000, -1_000_000)]), 16));
+    let far: Vec<Branch> = (1..60).map(|x| (x - 1, x, 1_000_000, 1_000_000)).collect();
+    all.push(of(table(60, u32::MAX, &far), 16));
+    for room in [0, 16, 33, 95, 96, 160] {
+        all.push(of(star(4, 0, 0), room));
+    }
+    all.push(of(star(5, 0, -7), 32));
+    all.push(of(star(40, 0, 0), 9_600));
+    all.push(of(star(40, 0, 0), 11_216));
+    all
+}

@@ -1,0 +1,313 @@
+//! Reads worked.txt: the hand-worked cases in words, each ask with the answer that was worked out by hand. What is
+//! written there is what the library must say; that this program computes the same is tested, and a difference is told
+//! with its line. README.md has the form.
+use crate::asks::{Ask, Op, Said, LENT};
+use crate::cases::Case;
+use crate::plain::{plain, table, Branch};
+use std::collections::HashMap;
+use std::str::FromStr;
+
+const WORDS: &str = include_str!("worked.txt");
+
+/// How many elements of the lent memory the line of a hand-worked ask shows, where it has as many.
+const SHOWN: u16 = 64;
+
+/// A case, and its asks' answers where they are worked out by hand: for each the line of the file and the answer.
+pub struct Worked {
+    pub case: Case,
+    answers: Vec<Option<(usize, Said)>>,
+}
+
+type Read<T> = Result<T, String>;
+
+fn number<T: FromStr>(word: &str) -> Read<T> {
+    word.parse().map_err(|_| format!("'{word}' is no number that fits here"))
+}
+
+fn numbers<T: FromStr>(words: &[&str]) -> Read<Vec<T>> {
+    words.iter().map(|w| number(w)).collect()
+}
+
+/// Two nodes: `2-3`.
+fn ends(word: &str) -> Read<(u16, u16)> {
+    let (a, b) = word.split_once('-').ok_or(format!("'{word}' is no pair such as 2-3"))?;
+    Ok((number(a)?, number(b)?))
+}
+
+fn words(text: &str) -> Vec<&str> {
+    text.split_whitespace().collect()
+}
+
+fn parts(text: &str) -> Vec<Vec<&str>> {
+    text.split(',').map(words).collect()
+}
+
+fn strange<T>(what: &str, words: &[&str]) -> Read<T> {
+    Err(format!("{what} cannot be '{}'", words.join(" ")))
+}
+
+/// A net's rows: one, or many of one shape.
+fn rows(line: &str) -> Read<Vec<Branch>> {
+    Ok(match words(line)[..] {
+        ["chain", "of", n, "nodes", "length", l, "weight", w] => {
+            (1..number(n)?).map(|x| Ok((x - 1, x, number(l)?, number(w)?))).collect::<Read<_>>()?
+        }
+        ["star", "of", n, "nodes", "length", l, "weight", w] => {
+            (1..number(n)?).map(|x| Ok((0, x, number(l)?, number(w)?))).collect::<Read<_>>()?
+        }
+        [k, "times", a, b, l, w] => vec![(number(a)?, number(b)?, number(l)?, number(w)?); number(k)?],
+        [a, b, l, w] => vec![(number(a)?, number(b)?, number(l)?, number(w)?)],
+        ref other => return strange("a row", other),
+    })
+}
+
+/// A table's bytes, and how many rows its net has: the net, then what is said of it and what of the bytes.
+fn table_of(line: &str, nets: &HashMap<String, Vec<Branch>>) -> Read<(Vec<u8>, usize)> {
+    let all = parts(line);
+    let mut net: Vec<Branch> = match all[0][..] {
+        [name] => nets.get(name).ok_or(format!("no net is called {name}"))?.clone(),
+        ["joins", ref pairs @ ..] => {
+            pairs.iter().map(|p| ends(p).map(|(a, b)| (a, b, 0, 0))).collect::<Read<_>>()?
+        }
+        ref other => return strange("a net", other),
+    };
+    let (mut nodes, mut bound) = (net.len() as u16 + 1, 0);
+    for part in &all[1..] {
+        match part[..] {
+            ["bound", b] => bound = number(b)?,
+            ["nodes", n] => nodes = number(n)?,
+            ["length", l, "weight", w] => {
+                for row in net.iter_mut() {
+                    *row = (row.0, row.1, number(l)?, number(w)?);
+                }
+            }
+            ["row", r, "is", a, b, l, w] => {
+                let at = number::<usize>(r)?;
+                *net.get_mut(at).ok_or("no such row")? = (number(a)?, number(b)?, number(l)?, number(w)?);
+            }
+            ["byte", ..] | ["cut", ..] | ["then", ..] => {}
+            ref other => return strange("what is said of a table", other),
+        }
+    }
+    let mut t = table(nodes, bound, &net);
+    for part in &all[1..] {
+        match part[..] {
+            ["byte", p, "is", v] => *t.get_mut(number::<usize>(p)?).ok_or("no such byte")? = number(v)?,
+            ["cut", "to", k, "bytes"] => t.truncate(number(k)?),
+            ["then", k, "more"] => t.resize(t.len() + number::<usize>(k)?, 0),
+            ["byte" | "cut" | "then", ..] => return strange("what is said of a table", part),
+            _ => {}
+        }
+    }
+    Ok((t, net.len()))
+}
+
+fn floor(word: &str) -> Read<u64> {
+    match word {
+        "least" => Ok(i64::MIN as u64),
+        "greatest" => Ok(i64::MAX as u64),
+        _ => number::<i64>(word).map(|z| z as u64),
+    }
+}
+
+/// What is asked.
+fn ask(text: &str) -> Read<Ask> {
+    let of = |op| Ask { shown: SHOWN, ..Ask::new(op, &format!("{text}:")) };
+    let page = |op, rest: &[&str]| {
+        let (x, start, lent) = match rest {
+            ["floor", x, "room", k] => (floor(x)?, ["0", "0"], number(k)?),
+            ["floor", x, "after", a, b, "room", k] => (floor(x)?, [*a, *b], number(k)?),
+            other => return strange("what a listing takes", other),
+        };
+        Ok(Ask { x, a: number(start[0])?, b: number(start[1])?, lent, ..of(op) })
+    };
+    Ok(match words(text)[..] {
+        ["open"] => of(Op::Open),
+        ["examine"] => of(Op::Examine),
+        ["row", "part", r] => Ask { x: number(r)?, ..of(Op::RowPart) },
+        ["next", "row", r] => Ask { x: number(r)?, ..of(Op::NextRow) },
+        ["first", "row"] => of(Op::FirstRow),
+        ["accept"] => of(Op::Accept),
+        ["pair", a, b] => Ask { a: number(a)?, b: number(b)?, ..of(Op::Pair) },
+        ["heaviest"] => of(Op::Heaviest),
+        ["heaviest", "exact"] => of(Op::HeaviestExact),
+        ["listing", "exact", ref rest @ ..] => page(Op::ListingExact, rest)?,
+        ["listing", ref rest @ ..] => page(Op::Listing, rest)?,
+        ["heads", "of", k] => Ask { lent: number(k)?, ..of(Op::Heads) },
+        ["run", r, "claims", a, b] => Ask { run: number(r)?, a: number(a)?, b: number(b)?, ..of(Op::Claim) },
+        ["run", r, "commits"] => Ask { run: number(r)?, ..of(Op::Commit) },
+        ["run", r, "aborts"] => Ask { run: number(r)?, ..of(Op::Abort) },
+        ref other => return strange("an ask", other),
+    })
+}
+
+/// A row of a listing as its 16 bytes, from `0-2 7 7`.
+fn listed(row: &[&str]) -> Read<Vec<u8>> {
+    let [pair, length, weight] = row else { return strange("a row of a listing", row) };
+    let (a, b) = ends(pair)?;
+    let mut bytes = [a.to_le_bytes(), b.to_le_bytes()].concat();
+    bytes.extend(number::<u32>(length)?.to_le_bytes());
+    bytes.extend(number::<i64>(weight)?.to_le_bytes());
+    Ok(bytes)
+}
+
+/// A row of a table as its 12 bytes, from `0-1 4 5`.
+fn part(row: &[&str]) -> Read<Vec<u8>> {
+    let [pair, length, weight] = row else { return strange("a part", row) };
+    let (a, b) = ends(pair)?;
+    Ok(table(0, 0, &[(a, b, number(length)?, number(weight)?)])[12..].to_vec())
+}
+
+fn wide(bytes: Vec<u8>) -> Option<Vec<u16>> {
+    Some(bytes.into_iter().map(u16::from).collect())
+}
+
+/// The answer as it is written. A refusal leaves the lent memory and the marks as they were.
+fn said(ask: &Ask, text: &str, marks: &[u16]) -> Read<Said> {
+    let all = parts(text);
+    let lent = || match ask.op {
+        Op::Listing | Op::ListingExact | Op::Heads => Some(vec![LENT as u16; ask.lent as usize]),
+        Op::Claim | Op::Commit | Op::Abort => Some(marks.to_vec()),
+        _ => None,
+    };
+    let refusal = match all[0][..] {
+        ["refused", n] => Some([number(n)?, 0, 0]),
+        ["refused", n, "row", r] => Some([number(n)?, number(r)?, 0]),
+        ["refused", n, "row", r, "ring", g] => Some([number(n)?, number(r)?, number(g)?]),
+        _ => None,
+    };
+    if let Some(refusal) = refusal {
+        return Ok(Said { refusal, fields: vec![0; ask.many()], memory: lent() });
+    }
+    let fine = |fields: Read<Vec<i128>>, memory| Ok(Said { refusal: [0; 3], fields: fields?, memory });
+    match (ask.op, &all[..]) {
+        (Op::Open | Op::Examine | Op::Accept, [one]) => match one[..] {
+            ["nodes", n, "bound", b] => fine(numbers(&[n, b]), None),
+            _ => strange("nodes and bound", one),
+        },
+        (Op::Pair, [one]) => match one[..] {
+            ["length", l, "weight", w, "hops", h] => fine(numbers(&[l, w, h]), None),
+            _ => strange("length, weight and hops", one),
+        },
+        (Op::Heaviest | Op::HeaviestExact, [one]) => match one[..] {
+            [pair, "length", l, "weight", w] => {
+                let (a, b) = ends(pair)?;
+                fine(numbers(&[&a.to_string(), &b.to_string(), l, w]), None)
+            }
+            _ => strange("a run", one),
+        },
+        (Op::Listing | Op::ListingExact, [found @ .., left]) => {
+            let found: &[Vec<&str>] = if found == [["nothing"]] { &[] } else { found };
+            let mut bytes = found.iter().map(|r| listed(r)).collect::<Read<Vec<_>>>()?.concat();
+            bytes.resize(bytes.len().max(ask.lent as usize), LENT);
+            match left[..] {
+                [k, "left"] => fine(Ok(vec![found.len() as i128, number(k)?]), wide(bytes)),
+                _ => strange("how many are left", left),
+            }
+        }
+        (Op::Heads, [one]) => fine(Ok(vec![]), Some(numbers(one)?)),
+        (Op::Claim | Op::Commit | Op::Abort, [count, after]) => match (&count[..], &after[..]) {
+            ([k, "branches"], ["marks", marks @ ..]) => fine(numbers(&[k]), Some(numbers(marks)?)),
+            _ => strange("branches and marks", count),
+        },
+        (Op::RowPart | Op::FirstRow, [one]) if one[..] == ["no", "part"] => fine(Ok(vec![]), Some(vec![])),
+        (Op::RowPart | Op::FirstRow, [one]) => fine(Ok(vec![]), wide(part(one)?)),
+        (Op::NextRow, [one]) => fine(numbers(one), None),
+        _ => Err(format!("'{text}' is no answer to {}", ask.text)),
+    }
+}
+
+/// `the twelve, floor 10, room 16`: what a random case asks, answered by this program alone, on indented lines.
+fn twelve(text: &str, case: &Case) -> Read<Vec<Ask>> {
+    let mut p = plain(case.table.clone(), &case.marks);
+    for part in &parts(text)[1..] {
+        match part[..] {
+            ["run", r] => p.run = number(r)?,
+            ["nodes", a, b] => (p.a, p.b) = (number(a)?, number(b)?),
+            ["room", k] => p.room = number(k)?,
+            ["floor", x] => p.floor = floor(x)? as i64,
+            ref other => return strange("what the twelve take", other),
+        }
+    }
+    Ok(p.twelve().into_iter().map(|q| Ask { text: format!("    {}", q.text), ..q }).collect())
+}
+
+impl Worked {
+    fn new(text: &str) -> Worked {
+        let text = format!("\n{text}\n");
+        Worked { case: Case { text, table: vec![], marks: vec![], asks: vec![] }, answers: vec![] }
+    }
+
+    /// The marks after the asks so far, as they are written.
+    fn marks(&self) -> Vec<u16> {
+        let changed = |(q, a): (&Ask, &Option<(usize, Said)>)| match (q.op, a) {
+            (Op::Claim | Op::Commit | Op::Abort, Some((_, said))) => said.memory.clone(),
+            _ => None,
+        };
+        self.case.asks.iter().zip(&self.answers).rev().find_map(changed).unwrap_or(self.case.marks.clone())
+    }
+
+    fn take(&mut self, at: usize, line: &str, nets: &HashMap<String, Vec<Branch>>) -> Read<()> {
+        if let Some(rest) = line.strip_prefix("table ") {
+            let (table, free) = table_of(rest, nets)?;
+            (self.case.table, self.case.marks) = (table, vec![0; free]);
+        } else if let Some(rest) = line.strip_prefix("marks ") {
+            self.case.marks = numbers(&words(rest))?;
+        } else if line.starts_with("the twelve") {
+            let asks = twelve(line, &self.case)?;
+            self.answers.extend(asks.iter().map(|_| None));
+            self.case.asks.extend(asks);
+        } else {
+            let (asked, answer) = line.split_once(" = ").ok_or("an ask has its answer after ' = '")?;
+            let ask = ask(asked)?;
+            let said = said(&ask, answer, &self.marks())?;
+            self.case.asks.push(ask);
+            self.answers.push(Some((at, said)));
+        }
+        Ok(())
+    }
+
+    /// Its lines: of an ask that is answered in the file what is written there. This program must compute the same.
+    pub fn lines(&self) -> Read<Vec<String>> {
+        let asks = self.case.asks.iter().zip(&self.answers).zip(self.case.answers());
+        asks.map(|((ask, written), computed)| match written {
+            None => Ok(ask.line(&computed)),
+            Some((_, said)) if *said == computed => Ok(ask.line(said)),
+            Some((at, said)) => Err(format!(
+                "oracle/worked.txt:{at}: the answer written there is not the one computed:\n    {}\n    {}",
+                ask.line(said),
+                ask.line(&computed)
+            )),
+        })
+        .collect()
+    }
+}
+
+/// All of them, in order. A line that ends with a comma goes on in the next.
+pub fn read() -> Read<Vec<Worked>> {
+    let mut nets: HashMap<String, Vec<Branch>> = HashMap::new();
+    let mut all: Vec<Worked> = Vec::new();
+    let (mut net, mut begun) = (None, String::new());
+    for (i, line) in WORDS.lines().enumerate() {
+        if line.trim().is_empty() || line.trim().starts_with('#') {
+            continue;
+        }
+        let (line, at) = (format!("{begun}{}", line.trim()), i + 1);
+        let told = |why: String| format!("oracle/worked.txt:{at}: {why}");
+        begun = if line.ends_with(',') { format!("{line} ") } else { String::new() };
+        if !begun.is_empty() {
+            continue;
+        } else if let Some(name) = line.strip_prefix("net ") {
+            net = Some(name.to_string());
+            nets.insert(name.to_string(), vec![]);
+        } else if let Some(text) = line.strip_prefix("case ") {
+            net = None;
+            all.push(Worked::new(text));
+        } else if let Some(name) = &net {
+            nets.get_mut(name).unwrap().extend(rows(&line).map_err(told)?);
+        } else {
+            all.last_mut().ok_or(told("no case yet".to_string()))?.take(at, &line, &nets).map_err(told)?;
+        }
+    }
+    Ok(all)
+}
