@@ -1,3 +1,5 @@
--- What the contracts of this crate and of those above cite.
-pub mod Filled
+-- What a reader must believe of this crate; work holds what its functions promise each other, no part of an operation's
+-- promise.
+pub mod At
 pub mod Members
+pub mod work

@@ -2,7 +2,7 @@
 // elements are read.
 ghost use mathlib.Core.Path.{_≡_};
 ghost use Prim.Native.Nat.{_<_};
-ghost use Rattle.arrays.specs.Filled.{Filled};
+ghost use Rattle.arrays.specs.work.Filled.{Filled};
 
 // A 16-bit element as an index.
 pub fn wide(x: u16) -> usize

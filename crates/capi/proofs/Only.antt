@@ -7,9 +7,9 @@ use Rattle.table.specs.Refuse.{Only}
 use Rattle.tree.proofs.Begins.{accept-only}
 use Rattle.spines.proofs.HeadsOnly.{heads-only}
 use Rattle.marks.proofs.MarksOnly.{claim-only, commit-only, abort-only}
-use Rattle.answers.proofs.PairOnly.{pair-only}
-use Rattle.answers.proofs.HeaviestOnly.{heaviest-only, heaviest-exact-only}
-use Rattle.answers.proofs.ListingOnly.{listing-only, listing-exact-only}
+use Rattle.pair.proofs.Only.{pair-only}
+use Rattle.heaviest.proofs.Only.{heaviest-only, heaviest-exact-only}
+use Rattle.listing.proofs.Only.{listing-only, listing-exact-only}
 use Rattle.eight.specs.Call.{Call}
 use Rattle.eight.specs.Shown.{acceptanceInC, pairInC, heaviestInC, headsInC, listingInC, changeInC}
 use Rattle.capi.specs.Promises.{

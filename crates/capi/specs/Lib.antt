@@ -1,2 +1,2 @@
--- What a reader must believe of the C functions.
+-- What a reader must believe of this crate.
 pub mod Promises

@@ -7,9 +7,9 @@ use Rattle.tree.specs.Accept.{Accepts}
 use Rattle.spines.specs.Heads.{Headings}
 use Rattle.marks.specs.Change.{Commits, Aborts}
 use Rattle.marks.specs.Claim.{Claims}
-use Rattle.answers.specs.Pair.{PairOf}
-use Rattle.answers.specs.Heaviest.{HeaviestOf, HeaviestExactOf}
-use Rattle.answers.specs.Listing.{ListingOf, ListingExactOf}
+use Rattle.pair.specs.Pair.{PairOf}
+use Rattle.heaviest.specs.Heaviest.{HeaviestOf, HeaviestExactOf}
+use Rattle.listing.specs.Listing.{ListingOf, ListingExactOf}
 use Rattle.eight.specs.Call.{Call}
 use Rattle.eight.specs.Shown.{acceptanceInC, pairInC, heaviestInC, headsInC, listingInC, changeInC}
 

@@ -18,60 +18,60 @@ ghost use Rattle.capi.specs.Promises.{
 use eight::show_acceptance;
 use eight::show_change;
 use eight::show_heads;
+use eight::show_heaviest;
 use eight::show_page;
 use eight::show_pair;
-use eight::show_run;
 
 // Fields: nodes, bound.
 #[no_mangle]
-pub extern "C" fn hb_accept(table: &[u8], answer: &mut [i64; 8]) -> u8
-    ensures { λ r. ⌜ AcceptCall (now (table .entry)) (call r (now (answer .exit)) []) ⌝ }
+pub extern "C" fn hb_accept(s: &[u8], answer: &mut [i64; 8]) -> u8
+    ensures { λ r. ⌜ AcceptCall (now (s .entry)) (call r (now (answer .exit)) []) ⌝ }
 {
-    let o = tree::accept(table);
+    let o = tree::accept(s);
     show_acceptance(o, answer)
 }
 
 // Fields: length, weight, hops.
 #[no_mangle]
-pub extern "C" fn hb_pair(table: &[u8], marks: &[u16], a: u16, b: u16, answer: &mut [i64; 8]) -> u8
-    ensures { λ r. ⌜ PairCall (now (table .entry)) (now (marks .entry)) a b (call r (now (answer .exit)) []) ⌝ }
+pub extern "C" fn hb_pair(s: &[u8], marks: &[u16], a: u16, b: u16, answer: &mut [i64; 8]) -> u8
+    ensures { λ r. ⌜ PairCall (now (s .entry)) (now (marks .entry)) a b (call r (now (answer .exit)) []) ⌝ }
 {
-    let o = answers::pair(table, marks, a, b);
+    let o = pair::pair(s, marks, a, b);
     show_pair(o, answer)
 }
 
 // Fields: low, high, length, weight.
 #[no_mangle]
-pub extern "C" fn hb_heaviest(table: &[u8], marks: &[u16], answer: &mut [i64; 8]) -> u8
-    ensures { λ r. ⌜ HeaviestCall (now (table .entry)) (now (marks .entry)) (call r (now (answer .exit)) []) ⌝ }
+pub extern "C" fn hb_heaviest(s: &[u8], marks: &[u16], answer: &mut [i64; 8]) -> u8
+    ensures { λ r. ⌜ HeaviestCall (now (s .entry)) (now (marks .entry)) (call r (now (answer .exit)) []) ⌝ }
 {
-    let o = answers::heaviest(table, marks);
-    show_run(o, answer)
+    let o = heaviest::heaviest(s, marks);
+    show_heaviest(o, answer)
 }
 
 // The same for exactly the bound's length.
 #[no_mangle]
-pub extern "C" fn hb_heaviest_exact(table: &[u8], marks: &[u16], answer: &mut [i64; 8]) -> u8
-    ensures { λ r. ⌜ HeaviestExactCall (now (table .entry)) (now (marks .entry)) (call r (now (answer .exit)) []) ⌝ }
+pub extern "C" fn hb_heaviest_exact(s: &[u8], marks: &[u16], answer: &mut [i64; 8]) -> u8
+    ensures { λ r. ⌜ HeaviestExactCall (now (s .entry)) (now (marks .entry)) (call r (now (answer .exit)) []) ⌝ }
 {
-    let o = answers::heaviest_exact(table, marks);
-    show_run(o, answer)
+    let o = heaviest::heaviest_exact(s, marks);
+    show_heaviest(o, answer)
 }
 
 // No fields; each node's head into `heads`.
 #[no_mangle]
-pub extern "C" fn hb_heads(table: &[u8], heads: &mut [u16], answer: &mut [i64; 8]) -> u8
-    ensures { λ r. ⌜ HeadsCall (now (table .entry)) (now (heads .entry))
+pub extern "C" fn hb_heads(s: &[u8], heads: &mut [u16], answer: &mut [i64; 8]) -> u8
+    ensures { λ r. ⌜ HeadsCall (now (s .entry)) (now (heads .entry))
         (call r (now (answer .exit)) (now (heads .exit))) ⌝ }
 {
-    let o = spines::heads(table, heads);
+    let o = spines::heads(s, heads);
     show_heads(o, answer)
 }
 
 // Fields: written, left; the rows into `rows`.
 #[no_mangle]
 pub extern "C" fn hb_listing(
-    table: &[u8],
+    s: &[u8],
     marks: &[u16],
     floor: i64,
     low: u16,
@@ -79,17 +79,17 @@ pub extern "C" fn hb_listing(
     rows: &mut [u8],
     answer: &mut [i64; 8],
 ) -> u8
-    ensures { λ r. ⌜ ListingCall (now (table .entry)) (now (marks .entry)) floor low high (now (rows .entry))
+    ensures { λ r. ⌜ ListingCall (now (s .entry)) (now (marks .entry)) floor low high (now (rows .entry))
         (call r (now (answer .exit)) (now (rows .exit))) ⌝ }
 {
-    let o = answers::listing(table, marks, floor, low, high, rows);
+    let o = listing::listing(s, marks, floor, low, high, rows);
     show_page(o, answer)
 }
 
 // The same for exactly the bound's length.
 #[no_mangle]
 pub extern "C" fn hb_listing_exact(
-    table: &[u8],
+    s: &[u8],
     marks: &[u16],
     floor: i64,
     low: u16,
@@ -97,46 +97,46 @@ pub extern "C" fn hb_listing_exact(
     rows: &mut [u8],
     answer: &mut [i64; 8],
 ) -> u8
-    ensures { λ r. ⌜ ListingExactCall (now (table .entry)) (now (marks .entry)) floor low high (now (rows .entry))
+    ensures { λ r. ⌜ ListingExactCall (now (s .entry)) (now (marks .entry)) floor low high (now (rows .entry))
         (call r (now (answer .exit)) (now (rows .exit))) ⌝ }
 {
-    let o = answers::listing_exact(table, marks, floor, low, high, rows);
+    let o = listing::listing_exact(s, marks, floor, low, high, rows);
     show_page(o, answer)
 }
 
 // Fields: claimed; the marks change in place.
 #[no_mangle]
 pub extern "C" fn hb_claim(
-    table: &[u8],
+    s: &[u8],
     marks: &mut [u16],
     run: u16,
     a: u16,
     b: u16,
     answer: &mut [i64; 8],
 ) -> u8
-    ensures { λ r. ⌜ ClaimCall (now (table .entry)) (now (marks .entry)) run a b
+    ensures { λ r. ⌜ ClaimCall (now (s .entry)) (now (marks .entry)) run a b
         (call r (now (answer .exit)) (now (marks .exit))) ⌝ }
 {
-    let o = marks::claim(table, marks, run, a, b);
+    let o = marks::claim(s, marks, run, a, b);
     show_change(o, answer)
 }
 
 // Fields: changed; the marks change in place.
 #[no_mangle]
-pub extern "C" fn hb_commit(table: &[u8], marks: &mut [u16], run: u16, answer: &mut [i64; 8]) -> u8
-    ensures { λ r. ⌜ CommitCall (now (table .entry)) (now (marks .entry)) run
+pub extern "C" fn hb_commit(s: &[u8], marks: &mut [u16], run: u16, answer: &mut [i64; 8]) -> u8
+    ensures { λ r. ⌜ CommitCall (now (s .entry)) (now (marks .entry)) run
         (call r (now (answer .exit)) (now (marks .exit))) ⌝ }
 {
-    let o = marks::commit(table, marks, run);
+    let o = marks::commit(s, marks, run);
     show_change(o, answer)
 }
 
 // Fields: changed; the marks change in place.
 #[no_mangle]
-pub extern "C" fn hb_abort(table: &[u8], marks: &mut [u16], run: u16, answer: &mut [i64; 8]) -> u8
-    ensures { λ r. ⌜ AbortCall (now (table .entry)) (now (marks .entry)) run
+pub extern "C" fn hb_abort(s: &[u8], marks: &mut [u16], run: u16, answer: &mut [i64; 8]) -> u8
+    ensures { λ r. ⌜ AbortCall (now (s .entry)) (now (marks .entry)) run
         (call r (now (answer .exit)) (now (marks .exit))) ⌝ }
 {
-    let o = marks::abort(table, marks, run);
+    let o = marks::abort(s, marks, run);
     show_change(o, answer)
 }

@@ -4,10 +4,10 @@ use crate::read;
 use crate::read::Ask;
 use crate::say;
 use crate::say::Answer;
-use answers::Listed;
-use answers::PairAnswer;
-use answers::Run;
+use heaviest::HeaviestAnswer;
+use listing::Listed;
 use marks::Change;
+use pair::PairAnswer;
 use spines::HeadsAnswer;
 use table::Opening;
 use tree::Acceptance;
@@ -51,10 +51,10 @@ fn found(o: PairAnswer) -> Answer {
     }
 }
 
-fn between(o: Run) -> Answer {
+fn between(o: HeaviestAnswer) -> Answer {
     match o {
-        Run::Refused(why) => say::refused(why, 4),
-        Run::Between {
+        HeaviestAnswer::Refused(why) => say::refused(why, 4),
+        HeaviestAnswer::Between {
             low,
             high,
             length,
@@ -106,85 +106,85 @@ fn signed(x: u64) -> i64 {
 }
 
 // The table's own functions. A row number is any that 64 bits hold.
-fn of_table(t: &[u8], q: Ask) {
+fn of_table(s: &[u8], q: Ask) {
     let code = q.code;
     let row = q.x as usize;
     let shown = q.shown;
     match code {
-        1 => say::line(opened(table::open_table(t))),
-        2 => say::line(opened(table::examine(t))),
-        3 => say::bytes(say::fine(0, 0, 0), table::row_part(t, row), shown),
-        4 => say::line(say::fine(1, table::next_row(t, row) as u64, 0)),
-        _ => say::bytes(say::fine(0, 0, 0), table::first_row(t), shown),
+        1 => say::line(opened(table::open_table(s))),
+        2 => say::line(opened(table::examine(s))),
+        3 => say::bytes(say::fine(0, 0, 0), table::row_part(s, row), shown),
+        4 => say::line(say::fine(1, table::next_row(s, row) as u64, 0)),
+        _ => say::bytes(say::fine(0, 0, 0), table::first_row(s), shown),
     }
 }
 
 // Those that lend nothing and change nothing.
-fn of_net(t: &[u8], marks: &[u16], q: Ask) -> Answer {
+fn of_net(s: &[u8], marks: &[u16], q: Ask) -> Answer {
     let code = q.code;
     match code {
-        17 => accepted(tree::accept(t)),
-        18 => found(answers::pair(t, marks, q.a, q.b)),
-        19 => between(answers::heaviest(t, marks)),
-        _ => between(answers::heaviest_exact(t, marks)),
+        17 => accepted(tree::accept(s)),
+        18 => found(pair::pair(s, marks, q.a, q.b)),
+        19 => between(heaviest::heaviest(s, marks)),
+        _ => between(heaviest::heaviest_exact(s, marks)),
     }
 }
 
-fn page(t: &[u8], marks: &[u16], q: Ask, rows: &mut [u8]) -> Answer {
+fn page(s: &[u8], marks: &[u16], q: Ask, rows: &mut [u8]) -> Answer {
     let code = q.code;
     let floor = signed(q.x);
     match code {
-        33 => listed(answers::listing(t, marks, floor, q.a, q.b, rows)),
-        _ => listed(answers::listing_exact(t, marks, floor, q.a, q.b, rows)),
+        33 => listed(listing::listing(s, marks, floor, q.a, q.b, rows)),
+        _ => listed(listing::listing_exact(s, marks, floor, q.a, q.b, rows)),
     }
 }
 
 // A page of as many bytes as are lent, each of which held 165.
-fn of_rows(t: &[u8], marks: &[u16], q: Ask) {
+fn of_rows(s: &[u8], marks: &[u16], q: Ask) {
     let size = q.lent;
     let mut space = [165u8; 65536];
     let whole = &mut space[..];
     if size <= whole.len() {
         let rows = &mut whole[0..size];
-        let a = page(t, marks, q, rows);
+        let a = page(s, marks, q, rows);
         say::bytes(a, rows, q.shown);
     }
 }
 
 // A list of as many heads as are lent, each of which held 165.
-fn of_heads(t: &[u8], q: Ask) {
+fn of_heads(s: &[u8], q: Ask) {
     let size = q.lent;
     let mut space = [165u16; 4200];
     let whole = &mut space[..];
     if size <= whole.len() {
         let list = &mut whole[0..size];
-        let a = headed(spines::heads(t, list));
+        let a = headed(spines::heads(s, list));
         say::words(a, list, q.shown);
     }
 }
 
-fn change(t: &[u8], marks: &mut [u16], q: Ask) -> Answer {
+fn change(s: &[u8], marks: &mut [u16], q: Ask) -> Answer {
     let code = q.code;
     match code {
-        65 => changed(marks::claim(t, marks, q.run, q.a, q.b)),
-        66 => changed(marks::commit(t, marks, q.run)),
-        _ => changed(marks::abort(t, marks, q.run)),
+        65 => changed(marks::claim(s, marks, q.run, q.a, q.b)),
+        66 => changed(marks::commit(s, marks, q.run)),
+        _ => changed(marks::abort(s, marks, q.run)),
     }
 }
 
-fn of_marks(t: &[u8], marks: &mut [u16], q: Ask) {
-    let a = change(t, marks, q);
+fn of_marks(s: &[u8], marks: &mut [u16], q: Ask) {
+    let a = change(s, marks, q);
     say::words(a, marks, q.shown);
 }
 
-pub(crate) fn answer(t: &[u8], marks: &mut [u16], q: Ask) {
+pub(crate) fn answer(s: &[u8], marks: &mut [u16], q: Ask) {
     read::text(q.text);
     let sort = q.code / 16;
     match sort {
-        0 => of_table(t, q),
-        1 => say::line(of_net(t, marks, q)),
-        2 => of_rows(t, marks, q),
-        3 => of_heads(t, q),
-        _ => of_marks(t, marks, q),
+        0 => of_table(s, q),
+        1 => say::line(of_net(s, marks, q)),
+        2 => of_rows(s, marks, q),
+        3 => of_heads(s, q),
+        _ => of_marks(s, marks, q),
     }
 }

@@ -5,22 +5,22 @@ mod read;
 mod say;
 
 // The asks of a case, one after the other, on one set of marks.
-fn each(t: &[u8], marks: &mut [u16], count: u16) {
+fn each(s: &[u8], marks: &mut [u16], count: u16) {
     let mut i: u16 = 0;
     while i < count {
-        asks::answer(t, marks, read::next_ask());
+        asks::answer(s, marks, read::next_ask());
         i += 1;
     }
 }
 
-fn with_marks(t: &[u8], count: u16, asks: u16) {
+fn with_marks(s: &[u8], count: u16, asks: u16) {
     let size = count as usize;
     let mut space = [0u16; 4200];
     let whole = &mut space[..];
     if size <= whole.len() {
         let marks = &mut whole[0..size];
         read::marks(marks);
-        each(t, marks, asks);
+        each(s, marks, asks);
     }
 }
 

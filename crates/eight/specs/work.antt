@@ -1,2 +1,2 @@
--- Working statements of the functions between our crates, and no part of a promise.
+-- Working statements: what functions promise each other, and no part of an operation's promise.
 pub mod Room

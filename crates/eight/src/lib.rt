@@ -5,35 +5,28 @@ mod answer;
 ghost use mathlib.Core.Path.{_≡_};
 ghost use mathlib.Core.List.{List, []};
 ghost use Prim.Native.Nat.{ℕ};
-ghost use Rattle.tree.specs.Accept as Accept;
-ghost use Rattle.spines.specs.Heads as Heads;
-ghost use Rattle.marks.specs.Change as Changing;
-ghost use Rattle.answers.specs.Pair as Pair;
-ghost use Rattle.answers.specs.Heaviest as Heaviest;
-ghost use Rattle.answers.specs.Listing as Listing;
+ghost use Rattle.tree.specs.Accept.{acceptanceOutcome};
+ghost use Rattle.spines.specs.Heads.{headsOutcome};
+ghost use Rattle.marks.specs.Change.{changeOutcome};
+ghost use Rattle.pair.specs.Pair.{pairOutcome};
+ghost use Rattle.heaviest.specs.Heaviest.{heaviestOutcome};
+ghost use Rattle.listing.specs.Listing.{listingOutcome};
 ghost use Rattle.eight.specs.Call.{call};
-ghost use Rattle.eight.specs.Shown.{
-  acceptanceInC,
-  pairInC,
-  heaviestInC,
-  headsInC,
-  listingInC,
-  changeInC,
-};
+ghost use Rattle.eight.specs.Shown.{acceptanceInC, pairInC, heaviestInC, headsInC, listingInC, changeInC};
 ghost use Rattle.eight.specs.work.Room.{Room, Storable};
 use crate::answer::fill;
 use crate::answer::refuse;
-use answers::Listed;
-use answers::PairAnswer;
-use answers::Run;
+use heaviest::HeaviestAnswer;
+use listing::Listed;
 use marks::Change;
+use pair::PairAnswer;
 use spines::HeadsAnswer;
 use tree::Acceptance;
 
 // Acceptance: the refusal, or nodes, bound.
 pub fn show_acceptance(o: Acceptance, answer: &mut [i64; 8]) -> u8
-    requires { ⌜ Room ((Accept.outcome o) .row) ((Accept.outcome o) .ring) ⌝ }
-    ensures { λ r. ⌜ call r (now (answer .exit)) [] ≡ acceptanceInC (Accept.outcome o) ⌝ }
+    requires { ⌜ Room ((acceptanceOutcome o) .row) ((acceptanceOutcome o) .ring) ⌝ }
+    ensures { λ r. ⌜ call r (now (answer .exit)) [] ≡ acceptanceInC (acceptanceOutcome o) ⌝ }
 {
     match o {
         Acceptance::Refused(why) => refuse(why, answer),
@@ -45,8 +38,8 @@ pub fn show_acceptance(o: Acceptance, answer: &mut [i64; 8]) -> u8
 
 // A pair: the refusal, or length, weight, hops.
 pub fn show_pair(o: PairAnswer, answer: &mut [i64; 8]) -> u8
-    requires { ⌜ Room ((Pair.outcome o) .row) ((Pair.outcome o) .ring) ⌝ }
-    ensures { λ r. ⌜ call r (now (answer .exit)) [] ≡ pairInC (Pair.outcome o) ⌝ }
+    requires { ⌜ Room ((pairOutcome o) .row) ((pairOutcome o) .ring) ⌝ }
+    ensures { λ r. ⌜ call r (now (answer .exit)) [] ≡ pairInC (pairOutcome o) ⌝ }
 {
     match o {
         PairAnswer::Refused(why) => refuse(why, answer),
@@ -58,14 +51,14 @@ pub fn show_pair(o: PairAnswer, answer: &mut [i64; 8]) -> u8
     }
 }
 
-// A run: the refusal, or low, high, length, weight.
-pub fn show_run(o: Run, answer: &mut [i64; 8]) -> u8
-    requires { ⌜ Room ((Heaviest.outcome o) .row) ((Heaviest.outcome o) .ring) ⌝ }
-    ensures { λ r. ⌜ call r (now (answer .exit)) [] ≡ heaviestInC (Heaviest.outcome o) ⌝ }
+// The heaviest run: the refusal, or low, high, length, weight.
+pub fn show_heaviest(o: HeaviestAnswer, answer: &mut [i64; 8]) -> u8
+    requires { ⌜ Room ((heaviestOutcome o) .row) ((heaviestOutcome o) .ring) ⌝ }
+    ensures { λ r. ⌜ call r (now (answer .exit)) [] ≡ heaviestInC (heaviestOutcome o) ⌝ }
 {
     match o {
-        Run::Refused(why) => refuse(why, answer),
-        Run::Between {
+        HeaviestAnswer::Refused(why) => refuse(why, answer),
+        HeaviestAnswer::Between {
             low,
             high,
             length,
@@ -87,8 +80,8 @@ pub fn show_run(o: Run, answer: &mut [i64; 8]) -> u8
 
 // Heads: the refusal, or no fields.
 pub fn show_heads(o: HeadsAnswer, answer: &mut [i64; 8]) -> u8
-    requires { ⌜ ((list : List ℕ) × Room ((Heads.outcome o list) .row) ((Heads.outcome o list) .ring)) ⌝ }
-    ensures { λ r. ⌜ ((list : List ℕ) → call r (now (answer .exit)) list ≡ headsInC (Heads.outcome o list)) ⌝ }
+    requires { ⌜ ((list : List ℕ) × Room ((headsOutcome o list) .row) ((headsOutcome o list) .ring)) ⌝ }
+    ensures { λ r. ⌜ ((list : List ℕ) → call r (now (answer .exit)) list ≡ headsInC (headsOutcome o list)) ⌝ }
 {
     match o {
         HeadsAnswer::Refused(why) => refuse(why, answer),
@@ -98,8 +91,9 @@ pub fn show_heads(o: HeadsAnswer, answer: &mut [i64; 8]) -> u8
 
 // A page: the refusal, or written, left.
 pub fn show_page(o: Listed, answer: &mut [i64; 8]) -> u8
-    requires { ⌜ ((rows : List ℕ) × Storable (Listing.outcome o rows)) ⌝ }
-    ensures { λ r. ⌜ ((rows : List ℕ) → call r (now (answer .exit)) rows ≡ listingInC (Listing.outcome o rows)) ⌝ }
+    requires { ⌜ ((rows : List ℕ) × Storable (listingOutcome o rows)) ⌝ }
+    ensures { λ r. ⌜ ((rows : List ℕ)
+        → call r (now (answer .exit)) rows ≡ listingInC (listingOutcome o rows)) ⌝ }
 {
     match o {
         Listed::Refused(why) => refuse(why, answer),
@@ -111,8 +105,10 @@ pub fn show_page(o: Listed, answer: &mut [i64; 8]) -> u8
 
 // What claim, commit or abort gave: the refusal, or how many marks changed.
 pub fn show_change(o: Change, answer: &mut [i64; 8]) -> u8
-    requires { ⌜ ((marks : List ℕ) × Room ((Changing.outcome o marks) .row) ((Changing.outcome o marks) .ring)) ⌝ }
-    ensures { λ r. ⌜ ((marks : List ℕ) → call r (now (answer .exit)) marks ≡ changeInC (Changing.outcome o marks)) ⌝ }
+    requires { ⌜ ((marks : List ℕ)
+        × Room ((changeOutcome o marks) .row) ((changeOutcome o marks) .ring)) ⌝ }
+    ensures { λ r. ⌜ ((marks : List ℕ)
+        → call r (now (answer .exit)) marks ≡ changeInC (changeOutcome o marks)) ⌝ }
 {
     match o {
         Change::Refused(why) => refuse(why, answer),

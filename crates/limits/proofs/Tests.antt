@@ -3,7 +3,7 @@ use Prim.Native.Nat.{ℕ, _+_, _≤_}
 use mathlib.Core.Path.{_≡_, refl}
 use mathlib.Core.Bool.{Bool, true, false, true≢false, false≢true}
 use native.Mathlib.Omega.{arith}
-use Rattle.limits.specs.Fits.{Within, Fits, Decides}
+use Rattle.limits.specs.work.Fits.{Within, Fits, Decides}
 use Rattle.limits.specs.declared.Limit.{Limit}
 
 pub decides-true : {P : Type 0} → P → Decides P true

@@ -1,6 +1,6 @@
 // The test that a length must pass: at most a limit, or exactly it. The lists and the pages call it, so that it stands
 // once.
-ghost use Rattle.limits.specs.Fits.{Fits, Decides};
+ghost use Rattle.limits.specs.work.Fits.{Fits, Decides};
 
 // The greatest length that passes, and whether it alone does.
 pub struct Limit {

@@ -7,7 +7,7 @@ use native.Mathlib.Decide.{ℕ-discrete}
 use lib.ListN.{length, length-append}
 use Rattle.arrays.specs.Members.{In, at, past}
 use Rattle.pages.specs.Listing.{Entry}
-use Rattle.pages.specs.Bytes.{RowFits}
+use Rattle.pages.specs.work.RowFits.{RowFits}
 use Rattle.text.specs.Word.{word}
 use Rattle.text.specs.Decimal.{decimal, signed}
 use Rattle.text.proofs.Decimals.{decimal-few, signed-few}

@@ -8,7 +8,7 @@ use lib.ListN.{length}
 use Rattle.pages.specs.Listing.{Entry}
 use Rattle.pages.specs.Bytes.{entryAt, entries}
 use Rattle.pages.proofs.Back.{entries-none, entries-one, entries-join}
-use Rattle.text.specs.Put.{Put}
+use Rattle.text.specs.work.Put.{Put}
 use Rattle.text.proofs.Puts.{put-none, put-then, put-as}
 use Rattle.lines.specs.Lines.{pairText, pairsText}
 

@@ -1,2 +1,2 @@
--- What the contracts of this crate cite.
+-- What a reader must believe of this crate.
 pub mod Lines

@@ -6,7 +6,7 @@ ghost use lib.ListN.{length};
 ghost use mir.Syntax.{w64};
 ghost use mir.Val.{toZ};
 ghost use Rattle.text.specs.Decimal.{decimal, signed};
-ghost use Rattle.text.specs.Put.{Put};
+ghost use Rattle.text.specs.work.Put.{Put};
 
 pub(crate) const LINE_END: u8 = 10;
 

@@ -10,7 +10,7 @@ ghost use mir.Syntax.{w64};
 ghost use mir.Val.{toZ};
 ghost use Rattle.pages.specs.Listing.{entry};
 ghost use Rattle.pages.specs.Bytes.{entryAt, entries};
-ghost use Rattle.text.specs.Put.{Put};
+ghost use Rattle.text.specs.work.Put.{Put};
 ghost use Rattle.lines.specs.Lines.{ringText, refusedText, netText, bestText, pairText, pairsText, totalText};
 use fields::LINE_END;
 use fields::field;

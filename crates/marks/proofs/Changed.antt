@@ -1,4 +1,5 @@
--- From what the loops did to what the promises say: a run's own marks, and the free branches of a path. And that a change leaves one list of marks.
+-- From what the loops did to what the promises say: a run's own marks, and the free branches of a path. And that a
+-- change leaves one list of marks.
 use mathlib.Core.Path.{_≡_, refl, sym, _∙_}
 use mathlib.Core.Logic.{_⊎_, inl, inr, _≢_}
 use mathlib.Core.List.{List, [], _∷_, _++_}
@@ -7,13 +8,14 @@ use native.Mathlib.Decide.{ℕ-discrete, decLt}
 use native.Mathlib.Omega.{arith}
 use lib.ListN.{length, List·getD-eq-default}
 use lib.Seq.{ext-getD}
-use Rattle.arrays.specs.Filled as filled
+use Rattle.arrays.specs.At as filled
 use Rattle.table.specs.Refuse.{Only}
 use Rattle.arrays.specs.Members.{In, at}
 use Rattle.tree.specs.Count.{Count}
 use Rattle.tree.specs.Path.{Sum}
-use Rattle.tree.specs.Net.{Net, firstEnd, secondEnd, lengthOf}
-use Rattle.tree.specs.Rooted.{Rooted}
+use Rattle.tree.specs.work.Net.{Net}
+use Rattle.tree.specs.Net.{firstEnd, secondEnd, lengthOf}
+use Rattle.tree.specs.work.Rooted.{Rooted}
 use Rattle.arrays.proofs.Members.{in-left, in-right, in-either}
 use Rattle.tree.proofs.OnePath.{unique}
 use Rattle.tree.proofs.RingExactly.{once}
@@ -21,12 +23,14 @@ use Rattle.tree.proofs.Counts.{count-same, count-unique, count-some}
 use Rattle.marks.specs.Mark.{free, HeldBy, RunNumber}
 use Rattle.marks.specs.Change.{changed, Changes, Done}
 use Rattle.marks.specs.Claim.{Between, InReach, Taken, SomeFree}
-use Rattle.marks.specs.Work.{Holds, one-free, Frees, Held}
+use Rattle.marks.specs.work.Replace.{HoldsOld}
+use Rattle.marks.specs.work.Climbs.{one-free, Frees, Held}
 use Rattle.marks.proofs.Rises.{Whole}
 use Rattle.marks.proofs.Held.{FreeIn, frees-count}
 
 -- places that hold a run's number are branches that the run holds
-pub holds-held : {run m : ℕ} {before after : List ℕ} {k : ℕ} → RunNumber run → Changes (Holds before run) m before after k → Changes (λ r. HeldBy run (filled.at before r)) m before after k
+pub holds-held : {run m : ℕ} {before after : List ℕ} {k : ℕ} → RunNumber run
+    → Changes (HoldsOld before run) m before after k → Changes (λ r. HeldBy run (filled.at before r)) m before after k
 holds-held {run} {m} {before} {after} N c = record {
   same-many = c .same-many;
   becomes = λ r e. c .becomes r (place r e (decLt r (length before)));
@@ -34,13 +38,15 @@ holds-held {run} {m} {before} {after} N c = record {
   count = count-same (λ r h. h .is) (λ r e. place r e (decLt r (length before))) (c .count);
 }
   where
-    place : (r : ℕ) → HeldBy run (filled.at before r) → Dec (r < length before) → Holds before run r
+    place : (r : ℕ) → HeldBy run (filled.at before r) → Dec (r < length before) → HoldsOld before run r
     place r e (yes l) = record { fits = l; is = e }
     place r e (no l) = absurd (omega (arith, N .above, e, List·getD-eq-default before 0 {n = r} (omega arith)))
 
 -- One outcome
-changes-marks : {P : ℕ → Type 0} {m : ℕ} {before x y : List ℕ} {j k : ℕ} → Changes P m before x j → Changes P m before y k → x ≡ y
-changes-marks {P} {m} {before} {x} {y} p q = ext-getD 0 x y (p .same-many ∙ sym (q .same-many)) (λ r l. each r (ℕ-discrete (filled.at x r) (filled.at y r)))
+changes-marks : {P : ℕ → Type 0} {m : ℕ} {before x y : List ℕ} {j k : ℕ} → Changes P m before x j
+    → Changes P m before y k → x ≡ y
+changes-marks {P} {m} {before} {x} {y} p q =
+    ext-getD 0 x y (p .same-many ∙ sym (q .same-many)) (λ r l. each r (ℕ-discrete (filled.at x r) (filled.at y r)))
   where
     each : (r : ℕ) → Dec (filled.at x r ≡ filled.at y r) → filled.at x r ≡ filled.at y r
     each r (yes e) = e
@@ -69,7 +75,8 @@ module _ {s : List ℕ} {n a b : ℕ} (N : Net s n) where
   pub in-reach : {bound : ℕ} {rs : List ℕ} → Between s n a rs b → InReach s n bound a b → Sum (lengthOf s) rs ≤ bound
   in-reach p i = rw (same-rows p (i .path)) (i .short)
 
-  module _ {par row place : ℕ → ℕ} {R : Rooted (firstEnd s) (secondEnd s) (n - 1) n par row place} (before : List ℕ) {ups downs : List ℕ} (w : Whole R a b ups downs) where
+  module _ {par row place : ℕ → ℕ} {R : Rooted (firstEnd s) (secondEnd s) (n - 1) n par row place} (before : List ℕ)
+      {ups downs : List ℕ} (w : Whole R a b ups downs) where
     on-path : (r : ℕ) → Taken s before n a b r → FreeIn before (w .rows) r
     on-path r t = record { on = rw (same-rows (t .path) (w .path)) at (t .on); free = t .free }
 
@@ -80,10 +87,14 @@ module _ {s : List ℕ} {n a b : ℕ} (N : Net s n) where
     frees = w .sum (λ r. one-free (filled.at before r))
 
     frees-many : Count (Taken s before n a b) (Frees before ups + Frees before downs)
-    frees-many = rw (← frees) (count-same of-path on-path (frees-count before (w .rows) (once (firstEnd s) (secondEnd s) (w .path .1) (w .path .2))))
+    frees-many =
+        rw (← frees)
+        (count-same of-path on-path
+        (frees-count before (w .rows) (once (firstEnd s) (secondEnd s) (w .path .1) (w .path .2))))
 
     -- the free rows of the two climbs, taken, are the path's
-    pub claimed : {run : ℕ} {after : List ℕ} → Held (ups ++ downs) run before after → Changes (Taken s before n a b) run before after (Frees before ups + Frees before downs)
+    pub claimed : {run : ℕ} {after : List ℕ} → Held (ups ++ downs) run before after
+        → Changes (Taken s before n a b) run before after (Frees before ups + Frees before downs)
     claimed h = record {
       same-many = h .same-many;
       becomes = λ r t. h .becomes r (both r (w .only r (on-path r t .on))) (t .free);

@@ -6,18 +6,29 @@ use mathlib.Core.List.{List, _++_}
 use Prim.Native.Nat.{ℕ, _+_, _-_, _≤_, _<_}
 use native.Mathlib.Omega.{arith}
 use lib.ListN.{length}
-use Rattle.arrays.specs.Filled.{at}
+use Rattle.arrays.specs.At.{at}
 use Rattle.table.specs.Refuse.{refused, passed}
 use Rattle.tree.specs.Path.{Sum}
-use Rattle.tree.specs.Net.{Net, firstEnd, secondEnd, lengthOf}
-use Rattle.tree.specs.Rooted.{Above, Rooted}
-use Rattle.tree.specs.Grown.{Grown}
-use Rattle.tree.specs.Meet.{Meets, Hung}
+use Rattle.tree.specs.work.Net.{Net}
+use Rattle.tree.specs.Net.{firstEnd, secondEnd, lengthOf}
+use Rattle.tree.specs.work.Rooted.{Above, Rooted}
+use Rattle.tree.specs.work.Grown.{Grown}
+use Rattle.tree.specs.work.Meet.{Meets, Hung}
 use Rattle.tree.proofs.NetWalk.{walk-grown, walk-rooted}
 use Rattle.tree.proofs.Meeting.{grown-hung, meets-apart}
-use Rattle.marks.specs.Change.{refusal, outcome}
+use Rattle.marks.specs.Change.{changeRefusal, changeOutcome}
 use Rattle.marks.specs.Claim.{Ended}
-use Rattle.marks.specs.Work.{Frees, rowOf, Climb, ShortRows, Measured, Climbed, Ready, Walk, Held}
+use Rattle.marks.specs.work.Climbs.{
+  Frees,
+  rowOf,
+  MarkClimb,
+  ShortRows,
+  Measured,
+  ClimbHeld,
+  ClaimReady,
+  WalkOf,
+  Held,
+}
 use Rattle.marks.specs.declared.Change.the-variants.{Changed}
 use Rattle.marks.proofs.Rises.{Whole, above-rise, two-rises, rise-only}
 use Rattle.marks.proofs.Held.{held-both}
@@ -26,7 +37,7 @@ use Rattle.marks.proofs.Changed.{in-reach, claimed, none-free, some-fre
 pub short-rows : {s : List ℕ} {n m : ℕ} → Net s n → m ≡ n - 1 → ShortRows s m
 short-rows N e = record { stands = λ r l. N .stands r (omega arith); short = λ r l. N .short r (omega arith) }
 
-module _ {s : List ℕ} {n : ℕ} {parent half place : List ℕ} (N : Net s n) (W : Walk s n parent half place) where
+module _ {s : List ℕ} {n : ℕ} {parent half place : List ℕ} (N : Net s n) (W : WalkOf s n parent half place) where
   grown : Grown n parent (W .order) place
   grown = walk-grown N (W .walked)
 
@@ -37,7 +48,7 @@ module _ {s : List ℕ} {n : ℕ} {parent half place : List ℕ} (N : Net s n) (
   walk-hung = grown-hung grown
 
   pub climb-of : {marks : List ℕ} {x t : ℕ} → length marks ≡ n - 1 → x < n → Above (at parent) t x
-      → Climb marks parent half place x t
+      → MarkClimb marks parent half place x t
   climb-of {x = x} e b h =
       let q = above-rise h in
       record {
@@ -53,7 +64,7 @@ module _ {s : List ℕ} {n : ℕ} {parent half place : List ℕ} (N : Net s n) (
         rise = q .1;
       }
 
-  module _ {before : List ℕ} {run a b t : ℕ} (R : Ready s before n run a b) (m : Meets (at parent) a b t)
+  module _ {before : List ℕ} {run a b t : ℕ} (R : ClaimReady s before n run a b) (m : Meets (at parent) a b t)
       {l l′ k k′ : ℕ} (ups : Measured s before parent half a t l k)
       (downs : Measured s before parent half b t l′ k′) where
     whole : Whole rooted a b (ups .rows) (downs .rows)
@@ -67,17 +78,18 @@ module _ {s : List ℕ} {n : ℕ} {parent half place : List ℕ} (N : Net s n) (
     frees : Frees before (ups .rows) + Frees before (downs .rows) ≡ k + k′
     frees = omega (arith, ups .frees, downs .frees)
 
-    pub too-long : {bound : ℕ} → bound < l + l′ → Ended s n bound before run a b (refusal before 18 0 0)
+    pub too-long : {bound : ℕ} → bound < l + l′ → Ended s n bound before run a b (changeRefusal before 18 0 0)
     too-long h = refused (λ i. omega (arith, in-reach N (whole .path) i, long))
 
     module _ {bound : ℕ} (near : l + l′ ≤ bound) where
-      pub all-marked : k + k′ ≡ 0 → Ended s n bound before run a b (refusal before 19 0 0)
+      pub all-marked : k + k′ ≡ 0 → Ended s n bound before run a b (changeRefusal before 19 0 0)
       all-marked z =
           passed (record { rows = whole .rows; path = whole .path; short = omega (arith, long) })
           (refused (none-free N before whole (frees ∙ z)))
 
-      pub all-taken : {mid after : List ℕ} → k + k′ ≢ 0 → Climbed parent half a t run before mid
-          → Climbed parent half b t run mid after → Ended s n bound before run a b (outcome (Changed (k + k′)) after)
+      pub all-taken : {mid after : List ℕ} → k + k′ ≢ 0 → ClimbHeld parent half a t run before mid
+          → ClimbHeld parent half b t run mid after
+          → Ended s n bound before run a b (changeOutcome (Changed (k + k′)) after)
       all-taken {mid} {after} z p q =
           passed (record { rows = whole .rows; path = whole .path; short = omega (arith, long) })
           (passed (some-free N before whole (λ e. z (sym frees ∙ e)))

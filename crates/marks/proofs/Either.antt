@@ -1,4 +1,5 @@
--- A path taken the other way round has the same rows: so what a claim asks of two nodes, and what it takes, is the same in either order.
+-- A path taken the other way round has the same rows: so what a claim asks of two nodes, and what it takes, is the same
+-- in either order.
 use mathlib.Core.Path.{_≡_}
 use mathlib.Core.List.{List, [], _∷_}
 use Prim.Native.Nat.{ℕ, _+_, _-_, _<_}
@@ -10,7 +11,7 @@ use Rattle.tree.specs.Path.{Sum}
 use Rattle.tree.specs.Net.{firstEnd, secondEnd, lengthOf}
 use Rattle.tree.proofs.Flip.{flip}
 use Rattle.tree.proofs.Counts.{count-same}
-use Rattle.marks.specs.Change.{Outcome, Done}
+use Rattle.marks.specs.Change.{ChangeOutcome, Done}
 use Rattle.marks.specs.Claim.{Between, InReach, Taken, SomeFree, Ended}
 
 -- 1 at r, and 0 elsewhere: a list's sum of it tells whether r is in it
@@ -30,20 +31,31 @@ sum-in r (q ∷ rs) l = pick (ℕ-discrete r q) (sum-in r rs)
     pick (no n) ih = past (ih (omega (arith, n, l)))
 
 -- the path from b to a, of the one from a to b
-back : (s : List ℕ) (n : ℕ) {a b : ℕ} {rs : List ℕ} → Between s n a rs b → (qs : List ℕ) × Between s n b qs a × ((f : ℕ → ℕ) → Sum f qs ≡ Sum f rs)
+back : (s : List ℕ) (n : ℕ) {a b : ℕ} {rs : List ℕ} → Between s n a rs b
+    → (qs : List ℕ) × Between s n b qs a × ((f : ℕ → ℕ) → Sum f qs ≡ Sum f rs)
 back s n p = let f = flip (firstEnd s) (secondEnd s) (p .1) in (f .rows, (f .nodes, f .walk, f .once (p .2)), f .sum)
 
 module _ {s : List ℕ} {n a b : ℕ} where
   reach-flip : {bound : ℕ} → InReach s n bound a b → InReach s n bound b a
-  reach-flip i = let q = back s n (i .path) in record { rows = q .0; path = q .1; short = omega (arith, q .2 (lengthOf s), i .short) }
+  reach-flip i =
+      let q = back s n (i .path) in
+      record { rows = q .0; path = q .1; short = omega (arith, q .2 (lengthOf s), i .short) }
 
   taken-flip : {before : List ℕ} (r : ℕ) → Taken s before n a b r → Taken s before n b a r
-  taken-flip r t = let q = back s n (t .path) in record { rows = q .0; path = q .1; on = sum-in r (q .0) (omega (arith, q .2 (one-at r), in-sum (t .on))); free = t .free }
+  taken-flip r t =
+      let q = back s n (t .path) in
+      record {
+        rows = q .0;
+        path = q .1;
+        on = sum-in r (q .0) (omega (arith, q .2 (one-at r), in-sum (t .on)));
+        free = t .free;
+      }
 
   some-flip : {before : List ℕ} → SomeFree s before n a b → SomeFree s before n b a
   some-flip h = record { row = h .row; taken = taken-flip (h .row) (h .taken) }
 
-done-alike : {P Q : ℕ → Type 0} {m : ℕ} {before : List ℕ} {o : Outcome} → ((r : ℕ) → P r → Q r) → ((r : ℕ) → Q r → P r) → Done P m before o → Done Q m before o
+done-alike : {P Q : ℕ → Type 0} {m : ℕ} {before : List ℕ} {o : ChangeOutcome} → ((r : ℕ) → P r → Q r)
+    → ((r : ℕ) → Q r → P r) → Done P m before o → Done Q m before o
 done-alike to fro d = record {
   is = d .is;
   marks = record {
@@ -54,5 +66,6 @@ done-alike to fro d = record {
   };
 }
 
-pub ended-flip : {s before : List ℕ} {n bound run a b : ℕ} {o : Outcome} → Ended s n bound before run a b o → Ended s n bound before run b a o
+pub ended-flip : {s before : List ℕ} {n bound run a b : ℕ} {o : ChangeOutcome} → Ended s n bound before run a b o
+    → Ended s n bound before run b a o
 ended-flip = unless-alike reach-flip reach-flip (unless-alike some-flip some-flip (done-alike taken-flip taken-flip))

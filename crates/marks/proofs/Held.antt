@@ -1,4 +1,5 @@
--- How marks change: row after row along a climb, where a free one is taken; and place after place, where one that holds a number gets another.
+-- How marks change: row after row along a climb, where a free one is taken; and place after place, where one that holds
+-- a number gets another.
 use mathlib.Core.Path.{_≡_, refl, sym, ap, _∙_}
 use mathlib.Core.Logic.{_⊎_, inl, inr, _≢_, ⊎-elim}
 use mathlib.Core.List.{List, [], _∷_, _++_}
@@ -8,13 +9,13 @@ use native.Mathlib.Nat.{zero-add}
 use native.Mathlib.Omega.{arith}
 use lib.ListN.{length, set, length-set}
 use lib.Seq.{getD-set-same, getD-set-other}
-use Rattle.arrays.specs.Filled as filled
+use Rattle.arrays.specs.At as filled
 use Rattle.arrays.specs.Members.{In, at, past, Distinct}
 use Rattle.tree.specs.Count.{Count}
 use Rattle.arrays.proofs.Members.{in?, not-nil, in-one, in-left, in-right, in-either}
 use Rattle.tree.proofs.Counts.{count-same, count-none, count-one, count-add}
 use Rattle.marks.specs.Mark.{Free}
-use Rattle.marks.specs.Work.{one-free, Frees, Held, Takes}
+use Rattle.marks.specs.work.Climbs.{one-free, Frees, Held, Takes}
 
 abbrev mark : List ℕ → ℕ → ℕ
 mark l r = filled.at l r
@@ -23,7 +24,8 @@ mark l r = filled.at l r
 pub held-none : (m : ℕ) (before : List ℕ) → Held [] m before before
 held-none m before = record { same-many = refl; becomes = λ r i. absurd (not-nil i); stays = λ r n. refl }
 
-module _ {done : List ℕ} {m r : ℕ} {before now next : List ℕ} (held : Held done m before now) (some : m ≢ 0) (fits : r < length now) (takes : Takes r m now next) where
+module _ {done : List ℕ} {m r : ℕ} {before now next : List ℕ} (held : Held done m before now) (some : m ≢ 0)
+    (fits : r < length now) (takes : Takes r m now next) where
   held-more : Dec (Free (mark now r)) → Held (done ++ (r ∷ [])) m before next
   held-more (yes f) = record {
     same-many = rw (takes .taken f) (length-set now r m ∙ held .same-many);
@@ -40,7 +42,8 @@ module _ {done : List ℕ} {m r : ℕ} {before now next : List ℕ} (held : Held
           getD-set-other now r q m 0 d
           ∙ held .becomes q (⊎-elim (λ j. j) (λ j. absurd (d (in-one j))) (in-either done i)) g
 
-      old : (q : ℕ) → (In q (done ++ (r ∷ [])) → Free (mark before q) → ⊥) → Dec (q ≡ r) → mark (set now r m) q ≡ mark before q
+      old : (q : ℕ) → (In q (done ++ (r ∷ [])) → Free (mark before q) → ⊥) → Dec (q ≡ r)
+          → mark (set now r m) q ≡ mark before q
       old q n (yes e) = absurd (n (in-right done (at e)) (rw e was))
       old q n (no d) = getD-set-other now r q m 0 d ∙ held .stays q (λ i g. n (in-left (r ∷ []) i) g)
   held-more (no f) = record {
@@ -61,7 +64,8 @@ module _ {done : List ℕ} {m r : ℕ} {before now next : List ℕ} (held : Held
   held-step = held-more (ℕ-discrete (mark now r) 0)
 
 -- Two climbs, one after the other
-pub held-both : {ups downs : List ℕ} {m : ℕ} {before mid after : List ℕ} → m ≢ 0 → Held ups m before mid → Held downs m mid after → Held (ups ++ downs) m before after
+pub held-both : {ups downs : List ℕ} {m : ℕ} {before mid after : List ℕ} → m ≢ 0 → Held ups m before mid
+    → Held downs m mid after → Held (ups ++ downs) m before after
 held-both {ups} {downs} {m} {before} {mid} {after} some h k = record {
   same-many = k .same-many ∙ h .same-many;
   becomes = λ r i f. new r f (in? r ups) (in-either ups i);
@@ -116,6 +120,13 @@ frees-count before (r ∷ rs) d = pick (mark before r) refl (frees-count before 
     wider : (q : ℕ) → FreeIn before rs q → FreeIn before (r ∷ rs) q
     wider q h = record { on = past (h .on); free = h .free }
 
-    pick : (m : ℕ) → mark before r ≡ m → Count (FreeIn before rs) (Frees before rs) → Count (FreeIn before (r ∷ rs)) (one-free (mark before r) + Frees before rs)
-    pick zero e c = rw e (count-add {P = λ q. q ≡ r} (count-one r refl (λ y h. h)) c (λ q h j. d .0 (rw h at (j .on))) tail (λ q h. record { on = at h; free = rw h e }) wider)
-    pick (suc m) e c = rw e (count-same {P = FreeIn before rs} wider (λ q h. ⊎-elim (λ j. absurd (omega (arith, h .free, ap (mark before) j))) (λ j. j) (tail q h)) (rw zero-add c))
+    pick : (m : ℕ) → mark before r ≡ m → Count (FreeIn before rs) (Frees before rs)
+        → Count (FreeIn before (r ∷ rs)) (one-free (mark before r) + Frees before rs)
+    pick zero e c =
+        rw e
+        (count-add {P = λ q. q ≡ r} (count-one r refl (λ y h. h)) c (λ q h j. d .0 (rw h at (j .on))) tail
+        (λ q h. record { on = at h; free = rw h e }) wider)
+    pick (suc m) e c =
+        rw e
+        (count-same {P = FreeIn before rs} wider
+        (λ q h. ⊎-elim (λ j. absurd (omega (arith, h .free, ap (mark before) j))) (λ j. j) (tail q h)) (rw zero-add c))

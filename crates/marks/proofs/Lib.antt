@@ -1,4 +1,5 @@
--- Laws of marks, by topic. Theorems has what claim, commit and abort change; MarksOnly that each promise allows one outcome.
+-- Laws of marks, by topic. Theorems has what claim, commit and abort change; MarksOnly that each promise allows one
+-- outcome.
 pub mod Weights
 pub mod Rises
 pub mod Held

@@ -7,11 +7,11 @@ use native.Mathlib.Decide.{ℕ-discrete, decLt}
 use native.Mathlib.Omega.{arith}
 use lib.ListN.{length, set, length-set}
 use lib.Seq.{getD-set-same, getD-set-other}
-use Rattle.arrays.specs.Filled.{at}
+use Rattle.arrays.specs.At.{at}
 use Rattle.tree.specs.Count.{Count}
 use Rattle.tree.proofs.Counts.{count-same, count-none, count-one, count-add}
 use Rattle.marks.specs.Change.{Changes}
-use Rattle.marks.specs.Work.{Holds}
+use Rattle.marks.specs.work.Replace.{HoldsOld}
 
 -- a place below i that held `old`
 pub record Seen (before : List ℕ) (old i r : ℕ) : Type 0 where
@@ -36,7 +36,8 @@ replacing-start old new before = record {
   few = omega arith;
 }
 
-module _ {old new : ℕ} {before : List ℕ} {i k : ℕ} {now : List ℕ} (h : Replacing old new before i k now) (l : i < length before) where
+module _ {old new : ℕ} {before : List ℕ} {i k : ℕ} {now : List ℕ} (h : Replacing old new before i k now)
+    (l : i < length before) where
   -- the place itself has not been touched yet
   pub replacing-own : at now i ≡ at before i
   replacing-own = h .stays i (λ s. omega (arith, s .fits))
@@ -52,14 +53,16 @@ module _ {old new : ℕ} {before : List ℕ} {i k : ℕ} {now : List ℕ} (h : R
   wider r s = record { fits = omega (arith, s .fits); is = s .is }
 
   pub replacing-hit : at now i ≡ old → Replacing old new before (i + 1) (k + 1) (set now i new)
-  replacing-hit e = record {
-    within = omega arith;
-    same-many = length-set now i new ∙ h .same-many;
-    becomes = λ r s. put r (ℕ-discrete r i) (split r s);
-    stays = λ r n. kept r n (ℕ-discrete r i);
-    count = count-add {Q = λ r. r ≡ i} (h .count) (count-one i refl (λ y q. q)) (λ r s q. omega (arith, s .fits, q)) split wider (λ r q. rw q own);
-    few = omega (arith, h .few);
-  }
+  replacing-hit e =
+      record {
+        within = omega arith;
+        same-many = length-set now i new ∙ h .same-many;
+        becomes = λ r s. put r (ℕ-discrete r i) (split r s);
+        stays = λ r n. kept r n (ℕ-discrete r i);
+        count = count-add {Q = λ r. r ≡ i} (h .count) (count-one i refl (λ y q. q)) (λ r s q. omega (arith, s .fits, q))
+            split wider (λ r q. rw q own);
+        few = omega (arith, h .few);
+      }
     where
       own : Seen before old (i + 1) i
       own = record { fits = omega arith; is = sym replacing-own ∙ e }
@@ -86,7 +89,8 @@ module _ {old new : ℕ} {before : List ℕ} {i k : ℕ} {now : List ℕ} (h : R
       back : (r : ℕ) → Seen before old (i + 1) r → Seen before old i r
       back r s = ⊎-elim (λ y. y) (λ q. absurd (d (replacing-own ∙ ap (at before) (sym q) ∙ s .is))) (split r s)
 
-pub replacing-end : {old new : ℕ} {before : List ℕ} {i k : ℕ} {now : List ℕ} → length before ≤ i → Replacing old new before i k now → Changes (Holds before old) new before now k
+pub replacing-end : {old new : ℕ} {before : List ℕ} {i k : ℕ} {now : List ℕ} → length before ≤ i
+    → Replacing old new before i k now → Changes (HoldsOld before old) new before now k
 replacing-end {old} {new} {before} {i} {k} {now} l h = record {
   same-many = h .same-many;
   becomes = λ r s. h .becomes r (seen r s);
@@ -94,8 +98,8 @@ replacing-end {old} {new} {before} {i} {k} {now} l h = record {
   count = count-same holds seen (h .count);
 }
   where
-    seen : (r : ℕ) → Holds before old r → Seen before old i r
+    seen : (r : ℕ) → HoldsOld before old r → Seen before old i r
     seen r s = record { fits = omega (arith, s .fits); is = s .is }
 
-    holds : (r : ℕ) → Seen before old i r → Holds before old r
+    holds : (r : ℕ) → Seen before old i r → HoldsOld before old r
     holds r s = record { fits = omega (arith, s .fits, h .within); is = s .is }

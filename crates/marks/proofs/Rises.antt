@@ -1,5 +1,5 @@
--- The rows of a climb, and the path between two nodes as the rows of their two climbs up to where they meet: up the one, then down the other, a step away
--- each time.
+-- The rows of a climb, and the path between two nodes as the rows of their two climbs up to where they meet: up the
+-- one, then down the other, a step away each time.
 use mathlib.Core.Path.{_≡_, refl, sym, ap, _∙_}
 use mathlib.Core.Logic.{_⊎_, inl, inr, _≢_, ⊎-elim}
 use mathlib.Core.List.{List, [], _∷_, _++_, append-assoc, append-nil}
@@ -9,13 +9,13 @@ use lib.ListN.{length}
 use Rattle.arrays.specs.Members.{In, at, past}
 use Rattle.tree.specs.Graph.{stop}
 use Rattle.tree.specs.Path.{Sum, Path}
-use Rattle.tree.specs.Rooted.{Above, self, up, Rooted}
+use Rattle.tree.specs.work.Rooted.{Above, self, up, Rooted}
 use Rattle.arrays.proofs.Members.{not-nil, in-one, in-left, in-right, in-either}
 use Rattle.tree.proofs.Above.{place-rises}
 use Rattle.tree.proofs.Rooted.{path-up, path-down, sum-snoc}
 use Rattle.tree.proofs.Above.{above-trans}
-use Rattle.marks.specs.Work as work
-use Rattle.marks.specs.Work.{Rise}
+use Rattle.marks.specs.work.Climbs as work
+use Rattle.marks.specs.work.Climbs.{Rise}
 
 module _ {par row : ℕ → ℕ} {t : ℕ} where
   pub rise-above : {x : ℕ} {rs : List ℕ} → Rise par row t x rs → Above par t x
@@ -27,7 +27,8 @@ module _ {par row : ℕ → ℕ} {t : ℕ} where
   above-rise (up {x} z e h) = let q = above-rise h in (row x ∷ q .0, work.up z e (q .1))
 
   -- a climb that is not at its end goes on by the row of its node
-  pub rise-next : {x : ℕ} {rs : List ℕ} → x ≢ t → Rise par row t x rs → (x ≢ 0) × (rest : List ℕ) × (rs ≡ row x ∷ rest) × Rise par row t (par x) rest
+  pub rise-next : {x : ℕ} {rs : List ℕ} → x ≢ t → Rise par row t x rs
+      → (x ≢ 0) × (rest : List ℕ) × (rs ≡ row x ∷ rest) × Rise par row t (par x) rest
   rise-next n work.here = absurd (n refl)
   rise-next n (work.up {rs = rest} z e h) = (z, rest, refl, rw e h)
 
@@ -35,7 +36,8 @@ module _ {u v : ℕ → ℕ} {k n : ℕ} {par row place : ℕ → ℕ} (R : Root
   -- a climb has no more rows than there are places from its end to its node
   pub rise-short : {t x : ℕ} {rs : List ℕ} → x < n → Rise par row t x rs → length rs + place t ≤ place x
   rise-short b work.here = omega arith
-  rise-short {x = x} b (work.up z e h) = omega (arith, rw e at (R .earlier x b z), rise-short (rw e at (R .par-fits x b z)) h)
+  rise-short {x = x} b (work.up z e h) =
+      omega (arith, rw e at (R .earlier x b z), rise-short (rw e at (R .par-fits x b z)) h)
 
   -- at its end no row is left
   pub rise-end : {t : ℕ} {rs : List ℕ} → t < n → Rise par row t t rs → rs ≡ []
@@ -45,10 +47,13 @@ module _ {u v : ℕ → ℕ} {k n : ℕ} {par row place : ℕ → ℕ} (R : Root
       none [] l = refl
       none (r ∷ rs) l = absurd (omega arith)
 
-  climb-on : {t x w : ℕ} {done rest : List ℕ} → w < n → Above par w x → Path u v k x done w → Rise par row t w rest → Path u v k x (done ++ rest) t
+  climb-on : {t x w : ℕ} {done rest : List ℕ} → w < n → Above par w x → Path u v k x done w → Rise par row t w rest
+      → Path u v k x (done ++ rest) t
   climb-on {done = done} b a p work.here = rw (append-nil done) p
   climb-on {t} {x} {w} {done} b a p (work.up {rs = rest} z e h) =
-      rw append-assoc at (climb-on (rw e at (R .par-fits w b z)) (rw e at (above-trans (up z refl self) a)) (rw e at (path-up u v R w b z a p)) h)
+      rw append-assoc
+      at (climb-on (rw e at (R .par-fits w b z)) (rw e at (above-trans (up z refl self) a))
+      (rw e at (path-up u v R w b z a p)) h)
 
   pub rise-path : {t x : ℕ} {rs : List ℕ} → x < n → Rise par row t x rs → Path u v k x rs t
   rise-path {x = x} b h = climb-on {done = []} b self ([], stop, (not-nil, tt)) h
@@ -63,7 +68,14 @@ module _ {u v : ℕ → ℕ} {k n : ℕ} {par row place : ℕ → ℕ} (R : Root
 
   pub two-rises : {t x y : ℕ} {ups downs : List ℕ} → x < n → y < n → Rise par row t x ups → Rise par row t y downs
       → ((z : ℕ) → Above par t z → Above par z y → z ≢ t → ¬ Above par z x) → Whole x y ups downs
-  two-rises {ups = ups} bx by h work.here n = record { rows = ups; path = rise-path bx h; only = λ r i. inl i; all = λ r i. ⊎-elim (λ j. j) (λ j. absurd (not-nil j)) i; sum = λ f. omega arith }
+  two-rises {ups = ups} bx by h work.here n =
+      record {
+        rows = ups;
+        path = rise-path bx h;
+        only = λ r i. inl i;
+        all = λ r i. ⊎-elim (λ j. j) (λ j. absurd (not-nil j)) i;
+        sum = λ f. omega arith;
+      }
   two-rises {t} {x} {y} {ups} bx by h (work.up {y = p} {rs = downs} z e j) n =
       down (two-rises bx (rw e at (R .par-fits y by z)) h j (λ w a b m. n w a (up z e b) m))
     where

@@ -8,31 +8,31 @@ use Prim.Native.Nat.{ℕ}
 use native.Mathlib.Decide.{ℕ-discrete}
 use native.Mathlib.Omega.{arith}
 use lib.Seq.{ext-getD}
-use Rattle.arrays.specs.Filled.{at}
+use Rattle.arrays.specs.At.{at}
 use Rattle.table.specs.Header.{nodesOf}
 use Rattle.table.proofs.Refusals.{past, unless-map, unless-alike, not-refused}
 use Rattle.tree.proofs.Begins.{begins-past, begins-map}
 use Rattle.tree.proofs.Flip.{two-flip}
 use Rattle.tree.proofs.Counts.{count-none, count-unique}
 use Rattle.marks.specs.Mark.{free, spent, Free, HeldBy, RunNumber}
-use Rattle.marks.specs.Change.{Outcome, refusal, Changes, Settles, Commits, Aborts}
+use Rattle.marks.specs.Change.{ChangeOutcome, changeRefusal, Changes, Settles, Commits, Aborts}
 use Rattle.marks.specs.Claim.{Taken, Claims}
 use Rattle.marks.proofs.Either.{ended-flip}
 
 -- nothing was refused
-abbrev Good : Outcome → Type 0
+abbrev Good : ChangeOutcome → Type 0
 Good o = o .number ≡ 0
 
-plain : (before : List ℕ) {o : Outcome} → Good o → (k r g : ℕ) → (k ≡ 0 → ⊥) → refusal before k r g ≡ o → ⊥
-plain before good k r g = not-refused (λ (x : Outcome). x .number) good
+plain : (before : List ℕ) {o : ChangeOutcome} → Good o → (k r g : ℕ) → (k ≡ 0 → ⊥) → changeRefusal before k r g ≡ o → ⊥
+plain before good k r g = not-refused (λ (x : ChangeOutcome). x .number) good
 
-module _ (s before : List ℕ) {o : Outcome} (good : Good o) where
+module _ (s before : List ℕ) {o : ChangeOutcome} (good : Good o) where
   -- a commit or an abort that is not refused: a run's number, and what it holds, no more and no less, has the new mark
   settled : {m run : ℕ} → Settles m s before run o
       → RunNumber run × Changes (λ r. HeldBy run (at before r)) m before (o .marks) (o .count)
   settled p =
       let a = past (plain before good 13 0 0 (λ e. omega (arith, e)))
-      (begins-past (refusal before) s (plain before good) p .1) in
+      (begins-past (changeRefusal before) s (plain before good) p .1) in
       let b = past (plain before good 14 0 0 (λ e. omega (arith, e))) (a .1) in
       (b .0, b .1 .marks)
 
@@ -49,7 +49,7 @@ module _ (s before : List ℕ) {o : Outcome} (good : Good o) where
       → RunNumber run × Changes (Taken s before (nodesOf s) a b) run before (o .marks) (o .count)
   claimed p =
       let x = past (plain before good 13 0 0 (λ e. omega (arith, e)))
-      (begins-past (refusal before) s (plain before good) p .1) in
+      (begins-past (changeRefusal before) s (plain before good) p .1) in
       let y = past (plain before good 14 0 0 (λ e. omega (arith, e))) (x .1) in
       let z = past (plain before good 15 0 0 (λ e. omega (arith, e))) (y .1) in
       let u = past (plain before good 18 0 0 (λ e. omega (arith, e))) (z .1) in
@@ -62,14 +62,14 @@ module _ (s before : List ℕ) {o : Outcome} (good : Good o) where
   claim-keeps p r n = claimed p .1 .stays r (λ t. n (t .free))
 
 -- A CLAIM TAKES ITS TWO NODES IN EITHER ORDER
-pub claim-either : (s before : List ℕ) {run a b : ℕ} {o : Outcome} → Claims s before run a b o
+pub claim-either : (s before : List ℕ) {run a b : ℕ} {o : ChangeOutcome} → Claims s before run a b o
     → Claims s before run b a o
 claim-either s before p =
-    begins-map (λ o. o) (refusal before) s
+    begins-map (λ o. o) (changeRefusal before) s
     (λ _. unless-map (λ o. o) (λ _. unless-map (λ o. o) (λ _. unless-alike two-flip two-flip ended-flip))) p
 
 -- AFTER CLAIM THEN ABORT of a run that held nothing before, the marks are as they were
-pub claim-abort : (s before : List ℕ) {run a b : ℕ} {o q : Outcome} → Good o → Good q
+pub claim-abort : (s before : List ℕ) {run a b : ℕ} {o q : ChangeOutcome} → Good o → Good q
     → ((r : ℕ) → HeldBy run (at before r) → ⊥) → Claims s before run a b o → Aborts s (o .marks) run q
     → q .marks ≡ before
 claim-abort s before {run} {a} {b} {o} {q} g h none p t =
@@ -95,7 +95,7 @@ claim-abort s before {run} {a} {b} {o} {q} g h none p t =
     each r (no n) = y .stays r n ∙ kept r n
 
 -- AFTER COMMIT, ABORT of the same run changes nothing
-pub commit-abort : (s before : List ℕ) {run : ℕ} {o q : Outcome} → Good o → Good q → Commits s before run o
+pub commit-abort : (s before : List ℕ) {run : ℕ} {o q : ChangeOutcome} → Good o → Good q → Commits s before run o
     → Aborts s (o .marks) run q → (q .marks ≡ o .marks) × (q .count ≡ 0)
 commit-abort s before {run} {o} {q} g h p t = (
   ext-getD 0 (q .marks) (o .marks) (y .same-many) (λ r l. y .stays r (none r)),

@@ -9,14 +9,16 @@ use native.Mathlib.Decide.{ℕ-discrete}
 use native.Mathlib.Omega.{arith}
 use lib.Dec.{leb·zero}
 use lib.IntN.{ℤ, pos, negsuc, natAbs}
-use Rattle.arrays.specs.Filled.{at}
+use Rattle.arrays.specs.At.{at}
 use Rattle.table.specs.Refuse.{Only}
-use Rattle.table.specs.Signed.{Diff, up, down}
+use Rattle.table.specs.work.Diff.{Diff, up, down}
 use Rattle.table.proofs.Only.{lifted-only}
 use Rattle.table.proofs.Near.{within-near}
-use Rattle.tree.specs.Net.{Net, weightOf}
+use Rattle.tree.specs.work.Net.{Net}
+use Rattle.tree.specs.Net.{weightOf}
 use Rattle.marks.specs.Mark.{Free}
-use Rattle.marks.specs.Weighs.{lesser, weighs, weightUnder, LiftedUnder}
+use Rattle.marks.specs.Weighs.{lesser, weighs, weightUnder}
+use Rattle.marks.specs.work.Lifted.{LiftedUnder}
 
 pub weighs-free : (m : ℕ) (w : ℤ) → Free m → weighs m w ≡ w
 unfolding weighs

@@ -5,7 +5,7 @@ use mathlib.Core.Bool.{Bool, true, false}
 use mathlib.Core.List.{List}
 use Prim.Native.Nat.{ℕ, _-_}
 use lib.ListN.{length}
-use Rattle.arrays.specs.Filled.{at}
+use Rattle.arrays.specs.At.{at}
 use Rattle.table.specs.Refuse.{Unless}
 use Rattle.table.specs.Header.{nodesOf}
 use Rattle.tree.specs.Count.{Count}
@@ -14,7 +14,7 @@ use Rattle.marks.specs.Mark.{free, spent, HeldBy, RunNumber}
 use Rattle.marks.specs.declared.Change.{Change}
 use Rattle.marks.specs.declared.Change.the-variants.{Changed, Refused}
 
-pub record Outcome : Type 0 where
+pub record ChangeOutcome : Type 0 where
   pub refused : Bool
   pub number : ℕ
   pub row : ℕ
@@ -23,16 +23,16 @@ pub record Outcome : Type 0 where
   pub marks : List ℕ
 
 -- a refusal: number, row and ring, and the marks as they were
-abbrev pub refusal : List ℕ → ℕ → ℕ → ℕ → Outcome
-refusal before k r g = record { refused = true; number = k; row = r; ring = g; count = 0; marks = before }
+abbrev pub changeRefusal : List ℕ → ℕ → ℕ → ℕ → ChangeOutcome
+changeRefusal before k r g = record { refused = true; number = k; row = r; ring = g; count = 0; marks = before }
 
 -- nothing is refused, and k marks changed
-abbrev pub changed : List ℕ → ℕ → Outcome
+abbrev pub changed : List ℕ → ℕ → ChangeOutcome
 changed after k = record { refused = false; number = 0; row = 0; ring = 0; count = k; marks = after }
 
-abbrev pub outcome : Change → List ℕ → Outcome
-outcome (Changed k) after = changed after k
-outcome (Refused w) after = refusal after (w .number) (w .row) (w .ring)
+abbrev pub changeOutcome : Change → List ℕ → ChangeOutcome
+changeOutcome (Changed k) after = changed after k
+changeOutcome (Refused w) after = changeRefusal after (w .number) (w .row) (w .ring)
 
 -- each mark at a place of P becomes m, no other mark changes, and k is how many places P has
 pub record Changes (P : ℕ → Type 0) (m : ℕ) (before after : List ℕ) (k : ℕ) : Type 0 where
@@ -42,27 +42,27 @@ pub record Changes (P : ℕ → Type 0) (m : ℕ) (before after : List ℕ) (k :
   pub count : Count P k
 
 -- nothing is refused, and the marks change so
-pub record Done (P : ℕ → Type 0) (m : ℕ) (before : List ℕ) (o : Outcome) : Type 0 where
+pub record Done (P : ℕ → Type 0) (m : ℕ) (before : List ℕ) (o : ChangeOutcome) : Type 0 where
   pub is : o ≡ changed (o .marks) (o .count)
   pub marks : Changes P m before (o .marks) (o .count)
 
 -- 13 and 14, of a net of n nodes: one mark for each branch, and a run's number; then as the rest says
-abbrev pub Numbered : ℕ → List ℕ → ℕ → (Outcome → Type 0) → Outcome → Type 0
-Numbered n before run rest =
-    Unless Outcome (refusal before 13 0 0) (length before ≡ n - 1)
-    (Unless Outcome (refusal before 14 0 0) (RunNumber run)
+abbrev pub MarksAndRun : ℕ → List ℕ → ℕ → (ChangeOutcome → Type 0) → ChangeOutcome → Type 0
+MarksAndRun n before run rest =
+    Unless ChangeOutcome (changeRefusal before 13 0 0) (length before ≡ n - 1)
+    (Unless ChangeOutcome (changeRefusal before 14 0 0) (RunNumber run)
     rest)
 
 -- each branch held by the run becomes m
-abbrev pub Settling : ℕ → ℕ → List ℕ → ℕ → Outcome → Type 0
-Settling m n before run = Numbered n before run (Done (λ r. HeldBy run (at before r)) m before)
+abbrev pub Settling : ℕ → ℕ → List ℕ → ℕ → ChangeOutcome → Type 0
+Settling m n before run = MarksAndRun n before run (Done (λ r. HeldBy run (at before r)) m before)
 
-abbrev pub Settles : ℕ → List ℕ → List ℕ → ℕ → Outcome → Type 0
-Settles m s before run = Begins Outcome (refusal before) s (Settling m (nodesOf s) before run)
+abbrev pub Settles : ℕ → List ℕ → List ℕ → ℕ → ChangeOutcome → Type 0
+Settles m s before run = Begins ChangeOutcome (changeRefusal before) s (Settling m (nodesOf s) before run)
 
 -- commit: spent; abort: free
-abbrev pub Commits : List ℕ → List ℕ → ℕ → Outcome → Type 0
+abbrev pub Commits : List ℕ → List ℕ → ℕ → ChangeOutcome → Type 0
 Commits = Settles spent
 
-abbrev pub Aborts : List ℕ → List ℕ → ℕ → Outcome → Type 0
+abbrev pub Aborts : List ℕ → List ℕ → ℕ → ChangeOutcome → Type 0
 Aborts = Settles free

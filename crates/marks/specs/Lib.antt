@@ -1,6 +1,7 @@
--- What a reader must believe of marks; Work holds only working statements of private functions.
-pub mod Mark
-pub mod Weighs
+-- What a reader must believe of this crate; work holds what its functions promise each other, no part of an operation's
+-- promise.
 pub mod Change
 pub mod Claim
-pub mod Work
+pub mod Mark
+pub mod Weighs
+pub mod work

@@ -1,4 +1,5 @@
--- One 16-bit number for each branch, in row order: 0 free, 1 to 65,534 held by that run, 65,535 spent. The code's own names for the two are FREE and SPENT, src/lib.rt; `weighs`, specs/Weighs, asks of a mark only whether it is 0.
+-- One 16-bit number for each branch, in row order: 0 free, 1 to 65,534 held by that run, 65,535 spent. The code's own
+-- names for the two are FREE and SPENT, src/lib.rt; `weighs`, specs/Weighs, asks of a mark only whether it is 0.
 use mathlib.Core.Path.{_≡_}
 use Prim.Native.Nat.{ℕ, _<_}
 

@@ -3,11 +3,20 @@
 ghost use mathlib.Core.Path.{_≡_};
 ghost use Prim.Native.Nat.{_<_};
 ghost use lib.ListN.{length};
-ghost use Rattle.tree.specs.Net.{Net};
+ghost use Rattle.tree.specs.work.Net.{Net};
 ghost use Rattle.marks.specs.Mark.{free};
-ghost use Rattle.marks.specs.Change.{outcome};
+ghost use Rattle.marks.specs.Change.{changeOutcome};
 ghost use Rattle.marks.specs.Claim.{Claiming, Ended};
-ghost use Rattle.marks.specs.Work.{one-free, Climb, ShortRows, Measured, Takes, Climbed, Ready, Walk};
+ghost use Rattle.marks.specs.work.Climbs.{
+  one-free,
+  MarkClimb,
+  ShortRows,
+  Measured,
+  Takes,
+  ClimbHeld,
+  ClaimReady,
+  WalkOf,
+};
 use crate::Change;
 use crate::FREE;
 use crate::SPENT;
@@ -30,7 +39,7 @@ fn one_free(mark: u16) -> u16
 
 // The climb from x to t, which is above x.
 fn measure(
-    table: &[u8],
+    s: &[u8],
     marks: &[u16],
     parent: &[u16; 4096],
     half: &[u16; 4096],
@@ -38,9 +47,9 @@ fn measure(
     x: usize,
     t: usize,
 ) -> Rising
-    requires { ⌜ Climb (now marks) (now parent) (now half) (now place) x t
-        × ShortRows (now table) (length (now marks)) ⌝ }
-    ensures { λ r. ⌜ Measured (now (table .entry)) (now (marks .entry)) (now (parent .entry)) (now (half .entry)) x t
+    requires { ⌜ MarkClimb (now marks) (now parent) (now half) (now place) x t
+        × ShortRows (now s) (length (now marks)) ⌝ }
+    ensures { λ r. ⌜ Measured (now (s .entry)) (now (marks .entry)) (now (parent .entry)) (now (half .entry)) x t
         (r .length) (r .free) ⌝ }
 {
     let mut v = x;
@@ -48,7 +57,7 @@ fn measure(
     let mut free: u16 = 0;
     while v != t {
         let r = arrays::wide(half[v]) / 2;
-        let q = table::row_at(table, r);
+        let q = table::row_at(s, r);
         let l = q.length;
         length += arrays::long(l);
         free += one_free(marks[r]);
@@ -76,8 +85,8 @@ fn hold(
     t: usize,
     run: u16,
 )
-    requires { ⌜ Climb (now marks) (now parent) (now half) (now place) x t × (free < run) ⌝ }
-    ensures { λ _. ⌜ Climbed (now (parent .entry)) (now (half .entry)) x t run (now (marks .entry))
+    requires { ⌜ MarkClimb (now marks) (now parent) (now half) (now place) x t × (free < run) ⌝ }
+    ensures { λ _. ⌜ ClimbHeld (now (parent .entry)) (now (half .entry)) x t run (now (marks .entry))
         (now (marks .exit)) ⌝ }
 {
     let mut v = x;
@@ -90,7 +99,7 @@ fn hold(
 
 // Over a walk: 18, 19, then the claim.
 fn claim_path(
-    table: &[u8],
+    s: &[u8],
     marks: &mut [u16],
     parent: &[u16; 4096],
     half: &[u16; 4096],
@@ -101,16 +110,16 @@ fn claim_path(
     a: u16,
     b: u16,
 ) -> Change
-    requires { ⌜ Ready (now table) (now marks) nodes run a b
-        × Walk (now table) nodes (now parent) (now half) (now place) ⌝ }
-    ensures { λ r. ⌜ Ended (now (table .entry)) nodes bound (now (marks .entry)) run a b
-        (outcome r (now (marks .exit))) ⌝ }
+    requires { ⌜ ClaimReady (now s) (now marks) nodes run a b
+        × WalkOf (now s) nodes (now parent) (now half) (now place) ⌝ }
+    ensures { λ r. ⌜ Ended (now (s .entry)) nodes bound (now (marks .entry)) run a b
+        (changeOutcome r (now (marks .exit))) ⌝ }
 {
     let x = arrays::wide(a);
     let y = arrays::wide(b);
     let t = tree::meet(parent, place, arrays::wide(nodes), x, y);
-    let ups = measure(table, marks, parent, half, place, x, t);
-    let downs = measure(table, marks, parent, half, place, y, t);
+    let ups = measure(s, marks, parent, half, place, x, t);
+    let downs = measure(s, marks, parent, half, place, y, t);
     if arrays::long(bound) < ups.length + downs.length {
         return Change::Refused(Refusal {
             number: 18,
@@ -132,7 +141,7 @@ fn claim_path(
 }
 
 fn claim_walked(
-    table: &[u8],
+    s: &[u8],
     marks: &mut [u16],
     nodes: u16,
     bound: u32,
@@ -140,32 +149,21 @@ fn claim_walked(
     a: u16,
     b: u16,
 ) -> Change
-    requires { ⌜ Ready (now table) (now marks) nodes run a b ⌝ }
-    ensures { λ r. ⌜ Ended (now (table .entry)) nodes bound (now (marks .entry)) run a b
-        (outcome r (now (marks .exit))) ⌝ }
+    requires { ⌜ ClaimReady (now s) (now marks) nodes run a b ⌝ }
+    ensures { λ r. ⌜ Ended (now (s .entry)) nodes bound (now (marks .entry)) run a b
+        (changeOutcome r (now (marks .exit))) ⌝ }
 {
     let mut parent: [u16; 4096] = [4096; 4096];
     let mut half: [u16; 4096] = [0; 4096];
     let mut order: [u16; 4096] = [0; 4096];
     let mut place: [u16; 4096] = [0; 4096];
-    tree::walk(table, nodes, &mut parent, &mut half, &mut order, &mut place);
-    claim_path(
-        table,
-        marks,
-        &parent,
-        &half,
-        &place,
-        nodes,
-        bound,
-        run,
-        a,
-        b,
-    )
+    tree::walk(s, nodes, &mut parent, &mut half, &mut order, &mut place);
+    claim_path(s, marks, &parent, &half, &place, nodes, bound, run, a, b)
 }
 
 // In an accepted net: 13, 14, 15, and then along the path.
 pub(crate) fn claim_pair(
-    table: &[u8],
+    s: &[u8],
     marks: &mut [u16],
     nodes: u16,
     bound: u32,
@@ -173,9 +171,9 @@ pub(crate) fn claim_pair(
     a: u16,
     b: u16,
 ) -> Change
-    requires { ⌜ Net (now table) nodes ⌝ }
-    ensures { λ r. ⌜ Claiming (now (table .entry)) nodes bound (now (marks .entry)) run a b
-        (outcome r (now (marks .exit))) ⌝ }
+    requires { ⌜ Net (now s) nodes ⌝ }
+    ensures { λ r. ⌜ Claiming (now (s .entry)) nodes bound (now (marks .entry)) run a b
+        (changeOutcome r (now (marks .exit))) ⌝ }
 {
     if marks.len() + 1 != arrays::wide(nodes) {
         return Change::Refused(Refusal {
@@ -219,5 +217,5 @@ pub(crate) fn claim_pair(
             ring: 0,
         });
     }
-    claim_walked(table, marks, nodes, bound, run, a, b)
+    claim_walked(s, marks, nodes, bound, run, a, b)
 }

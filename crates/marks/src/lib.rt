@@ -1,8 +1,8 @@
 // Marks: free, held by a run, spent; what a marked branch weighs; the operations claim, commit and abort.
 ghost use mathlib.Core.Path.{_≡_};
 ghost use Prim.Native.Nat.{min};
-ghost use Rattle.marks.specs.Weighs.{LiftedUnder};
-ghost use Rattle.marks.specs.Change.{outcome, Commits, Aborts};
+ghost use Rattle.marks.specs.work.Lifted.{LiftedUnder};
+ghost use Rattle.marks.specs.Change.{changeOutcome, Commits, Aborts};
 ghost use Rattle.marks.specs.Claim.{Claims};
 use crate::along::claim_pair;
 use crate::settle::settle;
@@ -23,13 +23,13 @@ pub enum Change {
 }
 
 // A row's weight under its mark, lifted by 1,000,000. Any table, marks and row number.
-pub fn lifted_under(table: &[u8], marks: &[u16], row: usize) -> u32
-    ensures { λ q. ⌜ LiftedUnder (now (table .entry)) (now (marks .entry)) row q ⌝ }
+pub fn lifted_under(s: &[u8], marks: &[u16], row: usize) -> u32
+    ensures { λ q. ⌜ LiftedUnder (now (s .entry)) (now (marks .entry)) row q ⌝ }
 {
-    let own = table::lifted_at(table, row);
+    let own = table::lifted_at(s, row);
     if row < marks.len() {
         if marks[row] != FREE {
-            return lesser(own, 1000000);
+            return lesser(own, table::ROW_LIFT);
         }
     }
     own
@@ -45,28 +45,26 @@ fn lesser(x: u32, y: u32) -> u32
 }
 
 // Each free branch of the path between a and b becomes held by the run.
-pub fn claim(table: &[u8], marks: &mut [u16], run: u16, a: u16, b: u16) -> Change
-    ensures { λ r. ⌜ Claims (now (table .entry)) (now (marks .entry)) run a b (outcome r (now (marks .exit))) ⌝ }
+pub fn claim(s: &[u8], marks: &mut [u16], run: u16, a: u16, b: u16) -> Change
+    ensures { λ r. ⌜ Claims (now (s .entry)) (now (marks .entry)) run a b (changeOutcome r (now (marks .exit))) ⌝ }
 {
-    let o = tree::accept(table);
+    let o = tree::accept(s);
     match o {
         Acceptance::Refused(why) => Change::Refused(why),
-        Acceptance::Accepted { nodes, bound } => {
-            claim_pair(table, marks, nodes, bound, run, a, b)
-        }
+        Acceptance::Accepted { nodes, bound } => { claim_pair(s, marks, nodes, bound, run, a, b) }
     }
 }
 
 // Each branch held by the run becomes spent.
-pub fn commit(table: &[u8], marks: &mut [u16], run: u16) -> Change
-    ensures { λ r. ⌜ Commits (now (table .entry)) (now (marks .entry)) run (outcome r (now (marks .exit))) ⌝ }
+pub fn commit(s: &[u8], marks: &mut [u16], run: u16) -> Change
+    ensures { λ r. ⌜ Commits (now (s .entry)) (now (marks .entry)) run (changeOutcome r (now (marks .exit))) ⌝ }
 {
-    settle(table, marks, run, SPENT)
+    settle(s, marks, run, SPENT)
 }
 
 // Each branch held by the run becomes free.
-pub fn abort(table: &[u8], marks: &mut [u16], run: u16) -> Change
-    ensures { λ r. ⌜ Aborts (now (table .entry)) (now (marks .entry)) run (outcome r (now (marks .exit))) ⌝ }
+pub fn abort(s: &[u8], marks: &mut [u16], run: u16) -> Change
+    ensures { λ r. ⌜ Aborts (now (s .entry)) (now (marks .entry)) run (changeOutcome r (now (marks .exit))) ⌝ }
 {
-    settle(table, marks, run, FREE)
+    settle(s, marks, run, FREE)
 }

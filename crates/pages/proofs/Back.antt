@@ -12,7 +12,8 @@ use mir.ValLaws.{toZ-ofZ, ofZ-fits}
 use Rattle.table.specs.Bytes.{u16At, u32At}
 use Rattle.arrays.specs.Members.{In, at, past}
 use Rattle.pages.specs.Listing.{Entry}
-use Rattle.pages.specs.Bytes.{bytes, row, rows, u64At, entryAt, entries, RowFits}
+use Rattle.pages.specs.Bytes.{bytes, row, rows, u64At, entryAt, entries}
+use Rattle.pages.specs.work.RowFits.{RowFits}
 use Rattle.pages.proofs.Rows.{row-length}
 
 module _ (front : List ℕ) (e : Entry) (rest : List ℕ) (p : ℕ) (place : length front ≡ p) where

@@ -1,4 +1,5 @@
--- The first nodes in turn, from the start's on: what was found below u is the listing of what follows the start with first node below u; past the last node it is the page.
+-- The first nodes in turn, from the start's on: what was found below u is the listing of what follows the start with
+-- first node below u; past the last node it is the page.
 use Prim.Native.Nat.{ℕ, _+_, _≤_, _<_}
 use mathlib.Core.Path.{_≡_, sym, _∙_}
 use mathlib.Core.Logic.{_⊎_, inl, inr}
@@ -7,13 +8,14 @@ use native.Mathlib.Omega.{arith}
 use native.Mathlib.Decide.{decLt, ℕ-discrete}
 use lib.IntN.{ℤ}
 use lib.ListN.{length, take, length-take}
-use Rattle.arrays.specs.Filled.{at}
-use Rattle.table.specs.Signed.{Diff}
+use Rattle.arrays.specs.At.{at}
+use Rattle.table.specs.work.Diff.{Diff}
 use Rattle.pages.specs.Listing.{Entry, After, first, second, Listing}
 use Rattle.pages.specs.Passes.{Qualifies}
 use Rattle.pages.specs.Page.{Following}
-use Rattle.pages.specs.Calls.{Paged}
-use Rattle.pages.specs.Work.{lower, Raised, Starts, Fills, Grown, Here}
+use Rattle.pages.specs.Paged.{Paged}
+use Rattle.pages.specs.work.Lowered.{lower, Raised}
+use Rattle.pages.specs.work.Filling.{Starts, Fills, GrownBy, Here}
 use Rattle.pages.proofs.Order.{not-before, after-second}
 use Rattle.pages.proofs.Listings.{listing-iff, listing-none, listing-join}
 use Rattle.pages.proofs.Lift.{lower-is}
@@ -43,10 +45,16 @@ follows {s} {t} {u} e b q h = pick (ℕ-discrete u s)
 
 module _ {P : Entry → Type 0} {s t : ℕ} where
   pub sofar-none : (page : List ℕ) → Sofar P s t s page 0 0 page
-  sofar-none page = record { seen = []; all = listing-none (λ e x. omega (arith, x .1, not-before (x .0 .1))); fills = fills-none page }
+  sofar-none page =
+      record {
+        seen = [];
+        all = listing-none (λ e x. omega (arith, x .1, not-before (x .0 .1)));
+        fills = fills-none page;
+      }
 
 module _ {Value : ℕ → ℕ → ℕ → ℤ → Type 0} {Within : ℕ → Type 0} {n : ℕ} {floor : ℤ} where
-  module _ (single : Single Value) {s t u from f : ℕ} {len wt : List ℕ} (b : s ≤ u) (k : Valued Value u n len wt) (z : Starts s t u n from) (r : Raised floor f) where
+  module _ (single : Single Value) {s t u from f : ℕ} {len wt : List ℕ} (b : s ≤ u) (k : Valued Value u n len wt)
+      (z : Starts s t u n from) (r : Raised floor f) where
     here-wanted : (e : Entry) → Here Within len wt u from f n e → Following (Qualifies Value Within floor n) s t e
     here-wanted e h =
         let a = z .after (e .high) (h .upto) (h .since) in (
@@ -60,9 +68,11 @@ module _ {Value : ℕ → ℕ → ℕ → ℤ → Type 0} {Within : ℕ → Type
           follows e b (h .one) (a .1),
         )
 
-    wanted-here : (e : Entry) → Following (Qualifies Value Within floor n) s t e → e .low ≡ u → Here Within len wt u from f n e
+    wanted-here : (e : Entry) → Following (Qualifies Value Within floor n) s t e → e .low ≡ u
+        → Here Within len wt u from f n e
     wanted-here e h q =
-        let p : Value (e .low) (e .high) (at len (e .high)) (lower (at wt (e .high))) = rw q (k .value (e .high) (h .0 .node) (lower (at wt (e .high))) (lower-is (at wt (e .high)))) in
+        let p : Value (e .low) (e .high) (at len (e .high)) (lower (at wt (e .high))) = rw q
+        (k .value (e .high) (h .0 .node) (lower (at wt (e .high))) (lower-is (at wt (e .high)))) in
         let l : e .length ≡ at len (e .high) = single .one-length _ _ _ _ _ _ (h .0 .path) p in
         let g : e .weight ≡ lower (at wt (e .high)) = single .one-weight _ _ _ _ _ _ (h .0 .path) p in
         let d : Diff (at wt (e .high)) 8589934592 (e .weight) = rw g (lower-is (at wt (e .high))) in
@@ -77,19 +87,27 @@ module _ {Value : ℕ → ℕ → ℕ → ℤ → Type 0} {Within : ℕ → Type
         }
 
     -- one first node more
-    pub sofar-more : {page mid now : List ℕ} {g l g₁ l₁ : ℕ} → Sofar (Qualifies Value Within floor n) s t u page g l mid → Grown (Here Within len wt u from f n) mid g l now g₁ l₁ → Sofar (Qualifies Value Within floor n) s t (u + 1) page g₁ l₁ now
-    sofar-more {page} a o = record {
-      seen = a .seen ++ o .found;
-      all = listing-join (a .all) (o .all) (λ x y h i. first (omega (arith, h .1, i .one))) (λ x h. (h .0, omega (arith, h .1))) (λ x h. (here-wanted x h, omega (arith, h .one))) (λ x h. pick x h (decLt (x .low) u));
-      fills = o .fills page (a .seen) (a .fills);
-    }
+    pub sofar-more : {page mid now : List ℕ} {g l g₁ l₁ : ℕ} → Sofar (Qualifies Value Within floor n) s t u page g l mid
+        → GrownBy (Here Within len wt u from f n) mid g l now g₁ l₁
+        → Sofar (Qualifies Value Within floor n) s t (u + 1) page g₁ l₁ now
+    sofar-more {page} a o =
+        record {
+          seen = a .seen ++ o .found;
+          all = listing-join (a .all) (o .all) (λ x y h i. first (omega (arith, h .1, i .one)))
+              (λ x h. (h .0, omega (arith, h .1))) (λ x h. (here-wanted x h, omega (arith, h .one)))
+              (λ x h. pick x h (decLt (x .low) u));
+          fills = o .fills page (a .seen) (a .fills);
+        }
       where
-        pick : (x : Entry) → Following (Qualifies Value Within floor n) s t x × (x .low < u + 1) → Dec (x .low < u) → (Following (Qualifies Value Within floor n) s t x × (x .low < u)) ⊎ Here Within len wt u from f n x
+        pick : (x : Entry) → Following (Qualifies Value Within floor n) s t x × (x .low < u + 1) → Dec (x .low < u)
+            → (Following (Qualifies Value Within floor n) s t x × (x .low < u)) ⊎ Here Within len wt u from f n x
         pick x h (yes c) = inl (h .0, c)
         pick x h (no c) = inr (wanted-here x (h .0) (omega (arith, h .1)))
 
   -- all first nodes are done
-  pub sofar-paged : {s t u : ℕ} {page now : List ℕ} {g l : ℕ} → n ≤ u → Sofar (Qualifies Value Within floor n) s t u page g l now → Paged (Qualifies Value Within floor n) s t page g l now
+  pub sofar-paged : {s t u : ℕ} {page now : List ℕ} {g l : ℕ} → n ≤ u
+      → Sofar (Qualifies Value Within floor n) s t u page g l now
+      → Paged (Qualifies Value Within floor n) s t page g l now
   sofar-paged {s} {t} {page} {g} h a =
       let f = a .fills in
       let e : length (take g (a .seen)) ≡ g = omega (arith, length-take g (a .seen), f .total) in

@@ -6,9 +6,9 @@ use native.Mathlib.Decide.{decLt}
 use lib.IntN.{ℤ, pos, negsuc}
 use mir.Syntax.{w64}
 use mir.Val.{ofZ}
-use Rattle.table.specs.Signed.{Diff, up, down}
+use Rattle.table.specs.work.Diff.{Diff, up, down}
 use Rattle.table.proofs.Lift.{diff, order, order-back}
-use Rattle.pages.specs.Work.{lower, Raised}
+use Rattle.pages.specs.work.Lowered.{lower, Raised}
 
 pub lower-is : (x : ℕ) → Diff x 8589934592 (lower x)
 unfolding lower
@@ -20,7 +20,8 @@ raise (pos n) = n + 8589934592
 raise (negsuc n) = 8589934592 - suc n
 
 same-lift : {z : ℤ} {r : ℕ} → Diff r 8589934592 z → Raised z r
-same-lift d = record { enough = λ x w e h. order-back d e (omega arith); needed = λ x w e h. omega (arith, order d e h) }
+same-lift d =
+    record { enough = λ x w e h. order-back d e (omega arith); needed = λ x w e h. omega (arith, order d e h) }
 
 pub raised-is : (z : ℤ) → Raised z (raise z)
 unfolding raise

@@ -8,12 +8,14 @@ use lib.IntN.{ℤ}
 use lib.ListN.{length}
 use Rattle.table.specs.Refuse.{Only}
 use Rattle.pages.specs.Listing.{Entry}
-use Rattle.pages.specs.Calls.{Paged}
-use Rattle.pages.specs.Work.{lower, Raised, Starts}
+use Rattle.pages.specs.Paged.{Paged}
+use Rattle.pages.specs.work.Lowered.{lower, Raised}
+use Rattle.pages.specs.work.Filling.{Starts}
 use Rattle.pages.proofs.Lift.{lower-is}
 use Rattle.pages.proofs.Pages.{page-only}
 
-pub paged-only : {P : Entry → Type 0} {s t : ℕ} {old : List ℕ} {g l g₁ l₁ : ℕ} {now now₁ : List ℕ} → Paged P s t old g l now → Paged P s t old g₁ l₁ now₁ → (g ≡ g₁) × (l ≡ l₁) × (now ≡ now₁)
+pub paged-only : {P : Entry → Type 0} {s t : ℕ} {old : List ℕ} {g l g₁ l₁ : ℕ} {now now₁ : List ℕ}
+    → Paged P s t old g l now → Paged P s t old g₁ l₁ now₁ → (g ≡ g₁) × (l ≡ l₁) × (now ≡ now₁)
 paged-only {old} {g} {g₁} a b =
     let e = page-only (a .page) (b .page) in
     let q : g ≡ g₁ = a .count ∙ ap length (e .0) ∙ sym (b .count) in

@@ -25,7 +25,8 @@ pub rising-across : {x y : Entry} (l m : List Entry) → Rising (l ++ m) → In 
 rising-across (z ∷ l) m r (at e) k = rw e (rising-head r _ (in-right l k))
 rising-across (z ∷ l) m r (past h) k = rising-across l m (rising-tail r) h k
 
-pub rising-join : (l : List Entry) {m : List Entry} → Rising l → Rising m → ((x y : Entry) → In x l → In y m → Before x y) → Rising (l ++ m)
+pub rising-join : (l : List Entry) {m : List Entry} → Rising l → Rising m
+    → ((x y : Entry) → In x l → In y m → Before x y) → Rising (l ++ m)
 rising-join [] r q f = q
 rising-join (x ∷ l) {m} r q f =
     more (λ y h. ahead y (in-either l h)) (rising-join l (rising-tail r) q (λ y z h k. f y z (past h) k))
@@ -34,11 +35,17 @@ rising-join (x ∷ l) {m} r q f =
     ahead y (inl h) = rising-head r y h
     ahead y (inr h) = f x y (at refl) h
 
-pub same-list : (l m : List Entry) → Rising l → Rising m → ((e : Entry) → In e l → In e m) → ((e : Entry) → In e m → In e l) → l ≡ m
+pub same-list : (l m : List Entry) → Rising l → Rising m → ((e : Entry) → In e l → In e m)
+    → ((e : Entry) → In e m → In e l) → l ≡ m
 same-list [] [] r q f g = refl
 same-list [] (y ∷ m) r q f g = absurd (not-nil (g y (at refl)))
 same-list (x ∷ l) [] r q f g = absurd (not-nil (f x (at refl)))
-same-list (x ∷ l) (y ∷ m) r q f g = cc (heads, same-list l m (rising-tail r) (rising-tail q) (λ e h. drops e h (in-cases (f e (past h)))) (λ e h. back e h (in-cases (g e (past h)))))
+same-list (x ∷ l) (y ∷ m) r q f g =
+    cc (
+      heads,
+      same-list l m (rising-tail r) (rising-tail q) (λ e h. drops e h (in-cases (f e (past h))))
+          (λ e h. back e h (in-cases (g e (past h)))),
+    )
   where
     heads : x ≡ y
     heads = pick (in-cases (f x (at refl))) (in-cases (g y (at refl)))

@@ -5,10 +5,11 @@ use mathlib.Core.Logic.{_⊎_, inl, inr}
 use mathlib.Core.List.{List}
 use native.Mathlib.Omega.{arith}
 use native.Mathlib.Decide.{decLt, ℕ-discrete}
-use Rattle.arrays.specs.Filled.{at}
+use Rattle.arrays.specs.At.{at}
 use Rattle.table.proofs.Lift.{diff-only}
 use Rattle.pages.specs.Listing.{Entry, entry, second}
-use Rattle.pages.specs.Work.{lower, Starts, Added, Grown, Here, Seconds}
+use Rattle.pages.specs.work.Lowered.{lower}
+use Rattle.pages.specs.work.Filling.{Starts, Added, GrownBy, Here, Seconds}
 use Rattle.pages.proofs.Lift.{lower-is}
 use Rattle.pages.proofs.Filling.{grown-none, grown-iff, grown-end}
 
@@ -48,10 +49,10 @@ module _ {Within : ℕ → Type 0} {len wt : List ℕ} {u from floor : ℕ} wher
       w = diff-only (rw q at (h .load)) (lower-is (at wt v))
 
   module _ (v : ℕ) {old mid : List ℕ} {g l g₁ l₁ : ℕ}
-      (r : Grown (Here Within len wt u from floor v) old g l mid g₁ l₁) where
+      (r : GrownBy (Here Within len wt u from floor v) old g l mid g₁ l₁) where
     here-add : {now : List ℕ} {g₂ l₂ : ℕ} → from ≤ v → Within (at len v) → floor ≤ at wt v
         → Added (entry u v (at len v) (lower (at wt v))) mid g₁ l₁ now g₂ l₂
-        → Grown (Here Within len wt u from floor (v + 1)) old g l now g₂ l₂
+        → GrownBy (Here Within len wt u from floor (v + 1)) old g l now g₂ l₂
     here-add h p q a =
         grown-end (entry u v (at len v) (lower (at wt v))) r a
         (record {
@@ -72,7 +73,7 @@ module _ {Within : ℕ → Type 0} {len wt : List ℕ} {u from floor : ℕ} wher
         pick x k (inr q) = inr (here-is v x k q)
 
     here-skip : (Within (at len v) → floor ≤ at wt v → ⊥)
-        → Grown (Here Within len wt u from floor (v + 1)) old g l mid g₁ l₁
+        → GrownBy (Here Within len wt u from floor (v + 1)) old g l mid g₁ l₁
     here-skip no-way = grown-iff (here-up v) (λ x k. pick x k (here-down v x k)) r
       where
         pick : (x : Entry) → Here Within len wt u from floor (v + 1) x

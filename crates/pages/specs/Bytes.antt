@@ -1,8 +1,8 @@
 -- A row of a page as bytes, and what bytes say as rows.
-use Prim.Native.Nat.{ℕ, zero, suc, _+_, _*_, _/_, _%_, _<_}
+use Prim.Native.Nat.{ℕ, zero, suc, _+_, _*_, _/_, _%_}
 use mathlib.Core.List.{List, [], _∷_, _++_}
 use mir.Syntax.{w64}
-use mir.Val.{SFits, ofZ, toZ}
+use mir.Val.{ofZ, toZ}
 use Rattle.table.specs.Bytes.{u16At, u32At}
 use Rattle.pages.specs.Listing.{Entry, entry}
 
@@ -29,10 +29,3 @@ entryAt s i = entry (u16At s i) (u16At s (i + 2)) (u32At s (i + 4)) (toZ w64 (u6
 unfoldable pub entries : List ℕ → ℕ → ℕ → List Entry
 entries s i zero = []
 entries s i (suc k) = entryAt s (16 * i) ∷ entries s (i + 1) k
-
--- an entry whose numbers fit their places in a row
-pub record RowFits (e : Entry) : Type 0 where
-  pub low : e .low < 65536
-  pub high : e .high < 65536
-  pub length : e .length < 4294967296
-  pub weight : SFits w64 (e .weight)

@@ -1,7 +1,8 @@
--- What a reader must believe of this crate; Work holds only working statements of its functions.
-pub mod Listing
-pub mod Passes
-pub mod Page
+-- What a reader must believe of this crate; work holds what its functions promise each other, no part of an operation's
+-- promise.
 pub mod Bytes
-pub mod Calls
-pub mod Work
+pub mod Listing
+pub mod Page
+pub mod Paged
+pub mod Passes
+pub mod work

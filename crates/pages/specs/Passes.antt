@@ -4,8 +4,10 @@ use lib.IntN.{ℤ}
 use lib.Signed.{_≤ℤ_}
 use Rattle.pages.specs.Listing.{Entry}
 
--- a pair of nodes below n, lower first, with the length and the weight of its path (as Value says), both within their tests
-pub record Passes (Value : ℕ → ℕ → ℕ → ℤ → Type 0) (Within : ℕ → Type 0) (Heavy : ℤ → Type 0) (n : ℕ) (e : Entry) : Type 0 where
+-- a pair of nodes below n, lower first, with the length and the weight of its path (as Value says), both within their
+-- tests
+pub record Passes (Value : ℕ → ℕ → ℕ → ℤ → Type 0) (Within : ℕ → Type 0) (Heavy : ℤ → Type 0) (n : ℕ) (e : Entry) : Type
+    0 where
   pub pair : e .low < e .high
   pub node : e .high < n
   pub path : Value (e .low) (e .high) (e .length) (e .weight)

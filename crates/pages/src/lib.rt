@@ -6,12 +6,19 @@ ghost use lib.ListN.{length};
 ghost use lib.Seq.{sets};
 ghost use mir.Syntax.{w64};
 ghost use mir.Val.{ofZ};
-ghost use Rattle.limits.specs.Fits.{Fits, Decides};
+ghost use Rattle.limits.specs.work.Fits.{Fits, Decides};
 ghost use Rattle.pages.specs.Listing.{entry};
 ghost use Rattle.pages.specs.Bytes.{bytes, row};
-ghost use Rattle.pages.specs.Work.{lower, Raised, Starts, Added, Ready, Seconds};
+ghost use Rattle.pages.specs.work.Lowered.{lower, Raised};
+ghost use Rattle.pages.specs.work.Filling.{Starts, Added, SecondsReady, Seconds};
 use limits::Limit;
 use limits::fits;
+use table::SUM_LIFT;
+
+// The lift of a sum as a signed number, and the least sum that is lifted.
+const SIGNED_LIFT: i64 = SUM_LIFT as i64;
+
+const LEAST: i64 = -SIGNED_LIFT;
 
 // The rows written and the rows left over.
 pub struct Count {
@@ -40,10 +47,10 @@ fn bits(x: u64) -> u64
     requires { ⌜ x < 17179869184 ⌝ }
     ensures { λ r. ⌜ r ≡ ofZ w64 (lower x) ⌝ }
 {
-    if x < 8589934592 {
+    if x < SUM_LIFT {
         x + 18446744065119617024
     } else {
-        x - 8589934592
+        x - SUM_LIFT
     }
 }
 
@@ -127,7 +134,7 @@ pub fn seconds(
     floor: u64,
     c: Count,
 ) -> Count
-    requires { ⌜ Ready (now out) room (now len) (now wt) u from n (c .left) ⌝ }
+    requires { ⌜ SecondsReady (now out) room (now len) (now wt) u from n (c .left) ⌝ }
     ensures { λ r. ⌜ Seconds (Fits limit) (now (len .entry)) (now (wt .entry)) u from floor n (now (out .entry))
         (c .given) (c .left) (now (out .exit)) (r .given) (r .left) ⌝ }
 {
@@ -149,10 +156,10 @@ pub fn raised(floor: i64) -> u64
     ensures { λ r. ⌜ Raised floor r ⌝ }
 {
     if floor >= 0 {
-        return (floor as u64) + 8589934592;
+        return (floor as u64) + SUM_LIFT;
     }
-    if floor < -8589934592 {
+    if floor < LEAST {
         return 0;
     }
-    (floor + 8589934592) as u64
+    (floor + SIGNED_LIFT) as u64
 }

@@ -1,4 +1,2 @@
--- What the contracts of this crate cite; Work holds only working statements of its private functions.
-pub mod Ground
-pub mod Paths
-pub mod Work
+-- This crate has working statements alone: what its functions promise, no part of an operation's promise.
+pub mod work

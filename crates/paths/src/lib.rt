@@ -3,9 +3,12 @@
 ghost use Prim.Native.Nat.{_≤_};
 ghost use mathlib.Core.Path.{_≡_};
 ghost use lib.ListN.{length};
-ghost use Rattle.paths.specs.Ground.{Ground};
-ghost use Rattle.paths.specs.Paths.{Paths, Begun, Lent};
-ghost use Rattle.paths.specs.Work.{Cleared, Climbable, Marked, Sweepable, Sweeping, Steps, Stepped};
+ghost use Rattle.paths.specs.work.Ground.{Ground};
+ghost use Rattle.paths.specs.work.Paths.{Paths, Begun, ArraysLent};
+ghost use Rattle.paths.specs.work.Sweeps.{Cleared, Climbable, Marked, Sweepable, Sweeping, Steps, StepMade};
+
+// What a row's weight is lifted by, as sums of weights are carried.
+const ROW_LIFT: u64 = table::ROW_LIFT as u64;
 
 // The length of a path and its weight, lifted by 2^33.
 struct Far {
@@ -44,11 +47,11 @@ fn climb(
     clear(above, n);
     let mut x = a;
     let mut l: u64 = 0;
-    let mut w: u64 = 8589934592;
+    let mut w: u64 = table::SUM_LIFT;
     while x != 0 {
         above[x] = 1;
         l = l + bl[x];
-        w = w + bw[x] - 1000000;
+        w = w + bw[x] - ROW_LIFT;
         x = arrays::wide(parent[x]);
     }
     Far {
@@ -60,17 +63,17 @@ fn climb(
 // A branch nearer where the flag is 1, a branch further otherwise.
 fn step(flag: u16, l: u64, w: u64, f: u64, y: u64) -> Far
     requires { ⌜ Steps flag l w f y ⌝ }
-    ensures { λ r. ⌜ Stepped flag l w f y (r .length) (r .weight) ⌝ }
+    ensures { λ r. ⌜ StepMade flag l w f y (r .length) (r .weight) ⌝ }
 {
     if flag == 1 {
         return Far {
             length: l - f,
-            weight: w + 1000000 - y,
+            weight: w + ROW_LIFT - y,
         };
     }
     Far {
         length: l + f,
-        weight: w + y - 1000000,
+        weight: w + y - ROW_LIFT,
     }
 }
 
@@ -125,11 +128,11 @@ pub fn paths_from(
     wt: &mut [u64; 4096],
 )
     requires { ⌜ Begun n a (now parent) (now order) (now place) (now bl) (now bw)
-        × Lent (now above) (now len) (now wt) ⌝ }
+        × ArraysLent (now above) (now len) (now wt) ⌝ }
     ensures { λ _. ⌜ ((g : Ground n (now (parent .entry)) (now (order .entry)) (now (place .entry)) (now (bl .entry))
         (now (bw .entry)))
         → Paths g a (now (len .exit)) (now (wt .exit)))
-        × Lent (now (above .exit)) (now (len .exit)) (now (wt .exit)) ⌝ }
+        × ArraysLent (now (above .exit)) (now (len .exit)) (now (wt .exit)) ⌝ }
 {
     let r = climb(parent, place, bl, bw, n, a, above);
     let l = r.length;

@@ -18,8 +18,8 @@ pub(crate) fn nothing() -> Handed
 
 // The first n bytes to standard output: they are those of the table's report from where it stands. That the system
 // writes what it is handed, in order, is not proved.
-pub(crate) fn hand_over(table: &[u8], out: &[u8], n: usize, handed: Handed) -> Handed
-    requires { ⌜ (n ≤ length (now out)) × Next (now table) (handed .place) (take n (now out)) ⌝ }
+pub(crate) fn hand_over(s: &[u8], out: &[u8], n: usize, handed: Handed) -> Handed
+    requires { ⌜ (n ≤ length (now out)) × Next (now s) (handed .place) (take n (now out)) ⌝ }
     ensures { λ r. ⌜ r .place ≡ handed .place + n ⌝ }
 {
     io::write_all(libc::STDOUT_FILENO, &out[..n]);

@@ -6,11 +6,11 @@ use mathlib.Core.Bool.{false, false≢true}
 use mathlib.Core.List.{List, [], _∷_, _++_, append-assoc, append-nil}
 use native.Mathlib.Omega.{arith}
 use lib.ListN.{length, length-append}
-use Rattle.text.specs.Put.{Put}
+use Rattle.text.specs.work.Put.{Put}
 use Rattle.text.proofs.Puts.{put-front}
 use Rattle.reporting.specs.declared.Piece.{Piece}
 use Rattle.reporting.specs.Report.{ReportOf, Rest, Next}
-use Rattle.reporting.specs.Pieces.{Comes, Shown}
+use Rattle.reporting.specs.work.Pieces.{Comes, Shown}
 
 -- the whole is to come
 pub rest-all : {s t : List ℕ} → ReportOf s t → length t < 9223372036854775808 → Rest s 0 t

@@ -9,11 +9,11 @@ use Rattle.pages.specs.Listing.{Entry, Listing}
 use Rattle.pages.specs.Passes.{Passes}
 use Rattle.pages.proofs.Listings.{listing-iff}
 use Rattle.pages.proofs.Qualifying.{passes-map}
-use Rattle.answers.specs.PathOf.{PathOf}
-use Rattle.answers.specs.Heaviest.{Heaviest}
-use Rattle.answers.proofs.HeaviestOnly.{level}
-use Rattle.answers.proofs.Demand2.{InReach}
-use Rattle.reporting.specs.Asked.{Counted}
+use Rattle.ground.specs.PathOf.{PathOf}
+use Rattle.heaviest.specs.Heaviest.{Heaviest}
+use Rattle.heaviest.proofs.Only.{level}
+use Rattle.heaviest.proofs.Demand2.{InReach}
+use Rattle.reporting.specs.work.Asked.{Counted}
 
 module _ (s marks : List ℕ) (e : Entry) (best : Heaviest (InReach s marks) e) where
   Same : Entry → Type 0

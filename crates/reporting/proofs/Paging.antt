@@ -12,35 +12,37 @@ use Rattle.table.specs.Bytes.{u16At}
 use Rattle.arrays.specs.Members.{In}
 use Rattle.pages.specs.Listing.{Entry, entry, Listing}
 use Rattle.pages.specs.Page.{Following}
-use Rattle.pages.specs.Calls.{Paged, done, again}
-use Rattle.pages.specs.Bytes.{rows, entryAt, entries, RowFits}
+use Rattle.pages.specs.Paged.{Paged}
+use Rattle.pages.specs.work.Calls.{done, again}
+use Rattle.pages.specs.Bytes.{rows, entryAt, entries}
+use Rattle.pages.specs.work.RowFits.{RowFits}
 use Rattle.arrays.proofs.Members.{in-left}
 use Rattle.pages.proofs.Listings.{listing-only}
 use Rattle.pages.proofs.Rows.{rows-length}
 use Rattle.pages.proofs.Back.{rows-back, entries-next}
 use Rattle.pages.proofs.Pages.{pages-listing, page-full}
 use Rattle.pages.proofs.Calls.{calls-pages}
-use Rattle.answers.specs.Listing.{refusal, ListingOf}
-use Rattle.answers.proofs.Few.{listing-room, listing-few}
-use Rattle.answers.proofs.ListingOnly.{listing-page}
-use Rattle.answers.proofs.Bounds.{passes-fits}
-use Rattle.answers.proofs.Demand3.{answered}
-use Rattle.text.specs.Put.{Put}
+use Rattle.listing.specs.Listing.{listingRefusal, ListingOf}
+use Rattle.listing.proofs.Few.{listing-room, listing-few}
+use Rattle.listing.proofs.Only.{listing-page}
+use Rattle.ground.proofs.Bounds.{passes-fits}
+use Rattle.listing.proofs.Demand3.{answered}
+use Rattle.text.specs.work.Put.{Put}
 use Rattle.lines.specs.Lines.{pairsText, totalText}
 use Rattle.lines.proofs.Lining.{pairs-append, lines-join, lines-none}
 use Rattle.lines.proofs.Lengths.{pairs-some}
 use Rattle.reporting.specs.Report.{Rest}
-use Rattle.reporting.specs.Asked.{Ready, Counted, Asked}
-use Rattle.reporting.specs.Pieces.{Comes, Paging}
+use Rattle.reporting.specs.work.Asked.{ListingReady, Counted, Asked}
+use Rattle.reporting.specs.work.Pieces.{Comes, Paging}
 use Rattle.reporting.proofs.Coming.{rest-as, comes-before, out-before}
 
 -- a call that is ready is answered by a page
-pub ready-taken : {s marks lent bytes : List ℕ} {floor : ℤ} {low high k r g : ℕ} → Ready s marks lent
-    → ListingOf s marks floor low high lent (refusal bytes k r g) → ⊥
+pub ready-taken : {s marks lent bytes : List ℕ} {floor : ℤ} {low high k r g : ℕ} → ListingReady s marks lent
+    → ListingOf s marks floor low high lent (listingRefusal bytes k r g) → ⊥
 ready-taken {s} {marks} {floor = floor} r p =
     true≢false (answered _ s marks floor (r .accepted) (r .marked) (r .room) p .0)
 
-pub ready-asked : {s marks lent bytes : List ℕ} {floor : ℤ} {low high written left : ℕ} → Ready s marks lent
+pub ready-asked : {s marks lent bytes : List ℕ} {floor : ℤ} {low high written left : ℕ} → ListingReady s marks lent
     → ListingOf s marks floor low high lent
     (record { refused = false; number = 0; row = 0; ring = 0; written = written; left = left; bytes = bytes })
     → Asked s marks floor low high bytes written left
@@ -232,5 +234,6 @@ module _ {s marks : List ℕ} {floor : ℤ} {total : ℕ} {bytes : List ℕ} {wr
           )
 
 -- other rows, as many bytes
-pub ready-as : {s marks rows₁ rows₂ : List ℕ} → Ready s marks rows₁ → length rows₂ ≡ length rows₁ → Ready s marks rows₂
+pub ready-as : {s marks rows₁ rows₂ : List ℕ} → ListingReady s marks rows₁ → length rows₂ ≡ length rows₁
+    → ListingReady s marks rows₂
 ready-as r e = record { accepted = r .accepted; marked = r .marked; room = omega (arith, r .room) }

@@ -9,18 +9,18 @@ use lib.Seq.{length-take-le}
 use Rattle.table.specs.Bytes.{u16At}
 use Rattle.tree.proofs.Begins.{admitted}
 use Rattle.pages.specs.Bytes.{entries}
-use Rattle.text.specs.Put.{Put}
+use Rattle.text.specs.work.Put.{Put}
 use Rattle.lines.specs.Lines.{pairsText, totalText}
 use Rattle.reporting.specs.Report.{allFree, Rest}
-use Rattle.reporting.specs.Asked.{Ready, Asked}
-use Rattle.reporting.specs.Pieces.{Lent, Going, Shown}
+use Rattle.reporting.specs.work.Asked.{ListingReady, Asked}
+use Rattle.reporting.specs.work.Pieces.{ReportLent, Going, Shown}
 use Rattle.reporting.specs.declared.Piece.{Piece}
 use Rattle.reporting.proofs.Coming.{next-fits}
 use Rattle.reporting.proofs.Paging.{asked-some, paging-comes, paging-on, paging-last, paging-again, again-some}
 
 -- other memory, as much of it
-pub lent-as : {branches rows rows₂ out out₂ : List ℕ} → Lent branches rows out → length rows₂ ≡ length rows
-    → length out₂ ≡ length out → Lent branches rows₂ out₂
+pub lent-as : {branches rows rows₂ out out₂ : List ℕ} → ReportLent branches rows out → length rows₂ ≡ length rows
+    → length out₂ ≡ length out → ReportLent branches rows₂ out₂
 lent-as l e f = record { free = l .free; page = omega (arith, l .page); text = omega (arith, l .text) }
 
 -- a piece's end is a place of the report
@@ -63,7 +63,7 @@ module _ {s rows : List ℕ} {p : Piece} {at : ℕ} (g : Going s rows p at) wher
   pub going-few : p .nodes ≤ 4096
   going-few = omega (arith, g .nodes, admitted s _ _ (g .accepted) .net .few)
 
-  pub going-ready : {marks : List ℕ} → marks ≡ allFree (p .nodes) → 16 ≤ length rows → Ready s marks rows
+  pub going-ready : {marks : List ℕ} → marks ≡ allFree (p .nodes) → 16 ≤ length rows → ListingReady s marks rows
   going-ready e h = record {
     accepted = g .accepted;
     marked = ap length e ∙ length-replicate (p .nodes - 1) 0 ∙ ap (λ (k : ℕ). k - 1) (g .nodes);

@@ -1,5 +1,4 @@
--- What a reader must believe of the report: Report, and `Comes` of Pieces. Asked, and the rest of Pieces, are working
--- statements.
+-- What a reader must believe of this crate; work holds what its functions promise each other, no part of an operation's
+-- promise.
 pub mod Report
-pub mod Asked
-pub mod Pieces
+pub mod work

@@ -2,22 +2,22 @@
 ghost use Prim.Native.Nat.{_≤_};
 ghost use mathlib.Core.Path.{_≡_};
 ghost use lib.ListN.{length};
-ghost use Rattle.tree.specs.Accept.{found as acceptedAs, Accepts};
+ghost use Rattle.tree.specs.Accept.{netAccepted as acceptedAs, Accepts};
 ghost use Rattle.pages.specs.Listing.{entry};
-ghost use Rattle.answers.specs.Heaviest.{HeaviestOf, found};
+ghost use Rattle.heaviest.specs.Heaviest.{HeaviestOf, heaviestFound};
 ghost use Rattle.lines.specs.Lines.{refusedText};
 ghost use Rattle.reporting.specs.Report.{allFree, Rest};
-ghost use Rattle.reporting.specs.Pieces.{Lent, Shown};
+ghost use Rattle.reporting.specs.work.Pieces.{ReportLent, Shown};
 use crate::Piece;
 use crate::last;
 use crate::listed::ask;
-use answers::Run;
+use heaviest::HeaviestAnswer;
 use tree::Acceptance;
 use tree::Refusal;
 
-fn refuse(table: &[u8], rows: &[u8], out: &mut [u8], why: Refusal) -> Piece
-    requires { ⌜ (65536 ≤ length (now out)) × Rest (now table) 0 (refusedText (why .number) (why .row) (why .ring)) ⌝ }
-    ensures { λ r. ⌜ Shown (now (table .entry)) (now (rows .entry)) (now (out .exit)) r × (r .place ≡ 0) ⌝ }
+fn refuse(s: &[u8], rows: &[u8], out: &mut [u8], why: Refusal) -> Piece
+    requires { ⌜ (65536 ≤ length (now out)) × Rest (now s) 0 (refusedText (why .number) (why .row) (why .ring)) ⌝ }
+    ensures { λ r. ⌜ Shown (now (s .entry)) (now (rows .entry)) (now (out .exit)) r × (r .place ≡ 0) ⌝ }
 {
     let n = lines::refused(out, why.number as u64, why.row as u64, why.ring as u64);
     last(n, 0)
@@ -25,7 +25,7 @@ fn refuse(table: &[u8], rows: &[u8], out: &mut [u8], why: Refusal) -> Piece
 
 // The first two lines. The first page is asked for with them, so that their number is known.
 fn lined(
-    table: &[u8],
+    s: &[u8],
     nodes: u16,
     bound: u32,
     marks: &[u16],
@@ -36,14 +36,14 @@ fn lined(
     rows: &mut [u8],
     out: &mut [u8],
 ) -> Piece
-    requires { ⌜ Accepts (now table) (acceptedAs nodes bound)
+    requires { ⌜ Accepts (now s) (acceptedAs nodes bound)
         × (now marks ≡ allFree nodes)
-        × HeaviestOf (now table) (now marks) (found (entry low high len weight))
+        × HeaviestOf (now s) (now marks) (heaviestFound (entry low high len weight))
         × (16 ≤ length (now rows))
         × (65536 ≤ length (now out)) ⌝ }
-    ensures { λ r. ⌜ Shown (now (table .entry)) (now (rows .exit)) (now (out .exit)) r × (r .place ≡ 0) ⌝ }
+    ensures { λ r. ⌜ Shown (now (s .entry)) (now (rows .exit)) (now (out .exit)) r × (r .place ≡ 0) ⌝ }
 {
-    let page = ask(table, marks, weight, 0, 0, rows);
+    let page = ask(s, marks, weight, 0, 0, rows);
     let bits = text::bits_of(weight);
     let n = lines::top(
         out,
@@ -69,51 +69,38 @@ fn lined(
 
 // Of an accepted net. The heaviest run is known before a line is made.
 fn accepted(
-    table: &[u8],
+    s: &[u8],
     nodes: u16,
     bound: u32,
     branches: &[u16],
     rows: &mut [u8],
     out: &mut [u8],
 ) -> Piece
-    requires { ⌜ Accepts (now table) (acceptedAs nodes bound) × Lent (now branches) (now rows) (now out) ⌝ }
-    ensures { λ r. ⌜ Shown (now (table .entry)) (now (rows .exit)) (now (out .exit)) r × (r .place ≡ 0) ⌝ }
+    requires { ⌜ Accepts (now s) (acceptedAs nodes bound) × ReportLent (now branches) (now rows) (now out) ⌝ }
+    ensures { λ r. ⌜ Shown (now (s .entry)) (now (rows .exit)) (now (out .exit)) r × (r .place ≡ 0) ⌝ }
 {
     let n = (nodes as usize) - 1;
     let marks = &branches[..n];
-    let o = answers::heaviest(table, marks);
+    let o = heaviest::heaviest(s, marks);
     match o {
-        Run::Refused(why) => refuse(table, rows, out, why),
-        Run::Between {
+        HeaviestAnswer::Refused(why) => refuse(s, rows, out, why),
+        HeaviestAnswer::Between {
             low,
             high,
             length,
             weight,
-        } => lined(
-            table,
-            nodes,
-            bound,
-            marks,
-            low,
-            high,
-            length,
-            weight,
-            rows,
-            out,
-        ),
+        } => lined(s, nodes, bound, marks, low, high, length, weight, rows, out),
     }
 }
 
 // `rows` is lent for pages of the listing, as many rows as fit; `out` for text.
-pub fn first(table: &[u8], branches: &[u16], rows: &mut [u8], out: &mut [u8]) -> Piece
-    requires { ⌜ Lent (now branches) (now rows) (now out) ⌝ }
-    ensures { λ r. ⌜ Shown (now (table .entry)) (now (rows .exit)) (now (out .exit)) r × (r .place ≡ 0) ⌝ }
+pub fn first(s: &[u8], branches: &[u16], rows: &mut [u8], out: &mut [u8]) -> Piece
+    requires { ⌜ ReportLent (now branches) (now rows) (now out) ⌝ }
+    ensures { λ r. ⌜ Shown (now (s .entry)) (now (rows .exit)) (now (out .exit)) r × (r .place ≡ 0) ⌝ }
 {
-    let o = tree::accept(table);
+    let o = tree::accept(s);
     match o {
-        Acceptance::Refused(why) => refuse(table, rows, out, why),
-        Acceptance::Accepted { nodes, bound } => {
-            accepted(table, nodes, bound, branches, rows, out)
-        }
+        Acceptance::Refused(why) => refuse(s, rows, out, why),
+        Acceptance::Accepted { nodes, bound } => { accepted(s, nodes, bound, branches, rows, out) }
     }
 }

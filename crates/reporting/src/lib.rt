@@ -9,7 +9,7 @@ ghost use Prim.Native.Nat.{_+_};
 ghost use mathlib.Core.Path.{_≡_};
 ghost use mathlib.Core.Bool.{false};
 ghost use lib.ListN.{replicate};
-ghost use Rattle.reporting.specs.Pieces.{Lent, Shown};
+ghost use Rattle.reporting.specs.work.Pieces.{ReportLent, Shown};
 
 // A piece: its n bytes come next, 0 where the report has ended. The rest is how to go on, and nobody else's.
 pub struct Piece {
@@ -52,18 +52,18 @@ fn last(n: usize, place: usize) -> Piece
 }
 
 // The piece after p: lines of the page's rows, of the next page's, or the last line.
-pub fn next(table: &[u8], branches: &[u16], rows: &mut [u8], out: &mut [u8], p: Piece) -> Piece
-    requires { ⌜ Lent (now branches) (now rows) (now out) × Shown (now table) (now rows) (now out) p ⌝ }
-    ensures { λ r. ⌜ Shown (now (table .entry)) (now (rows .exit)) (now (out .exit)) r
+pub fn next(s: &[u8], branches: &[u16], rows: &mut [u8], out: &mut [u8], p: Piece) -> Piece
+    requires { ⌜ ReportLent (now branches) (now rows) (now out) × Shown (now s) (now rows) (now out) p ⌝ }
+    ensures { λ r. ⌜ Shown (now (s .entry)) (now (rows .exit)) (now (out .exit)) r
         × (r .place ≡ p .place + p .n) ⌝ }
 {
     let at = p.place + p.n;
     if p.more {
         if p.row < p.written {
-            return listed::some_rows(table, out, rows, p, at);
+            return listed::some_rows(s, out, rows, p, at);
         }
         if p.left > 0 {
-            return listed::next_page(table, branches, rows, out, p, at);
+            return listed::next_page(s, branches, rows, out, p, at);
         }
         let n = lines::total(out, p.total as u64);
         return last(n, at);

@@ -2,11 +2,11 @@
 ghost use Prim.Native.Nat.{_+_, _≤_, _<_};
 ghost use mathlib.Core.Path.{_≡_};
 ghost use lib.ListN.{length};
-ghost use Rattle.reporting.specs.Asked.{Ready, Asked};
-ghost use Rattle.reporting.specs.Pieces.{Lent, Going, Shown};
+ghost use Rattle.reporting.specs.work.Asked.{ListingReady, Asked};
+ghost use Rattle.reporting.specs.work.Pieces.{ReportLent, Going, Shown};
 use crate::Piece;
-use answers::Listed;
 use lines::numbers::two;
+use listing::Listed;
 
 // What a page has, and what it leaves over.
 pub(crate) struct Count {
@@ -17,18 +17,18 @@ pub(crate) struct Count {
 // A page of the pairs after (low, high): of an accepted table, with a mark for each branch and room for a row, it is
 // not refused.
 pub(crate) fn ask(
-    table: &[u8],
+    s: &[u8],
     marks: &[u16],
     floor: i64,
     low: u16,
     high: u16,
     rows: &mut [u8],
 ) -> Count
-    requires { ⌜ Ready (now table) (now marks) (now rows) ⌝ }
-    ensures { λ r. ⌜ Asked (now (table .entry)) (now (marks .entry)) floor low high (now (rows .exit)) (r .written)
+    requires { ⌜ ListingReady (now s) (now marks) (now rows) ⌝ }
+    ensures { λ r. ⌜ Asked (now (s .entry)) (now (marks .entry)) floor low high (now (rows .exit)) (r .written)
         (r .left) ⌝ }
 {
-    let o = answers::listing(table, marks, floor, low, high, rows);
+    let o = listing::listing(s, marks, floor, low, high, rows);
     match o {
         Listed::Refused(_) => Count {
             written: 0,
@@ -50,9 +50,9 @@ fn stop(i: usize, count: usize) -> usize
 }
 
 // The lines of exactly the page's next rows, 600 at the most.
-pub(crate) fn some_rows(table: &[u8], out: &mut [u8], rows: &[u8], p: Piece, at: usize) -> Piece
-    requires { ⌜ (65536 ≤ length (now out)) × (p .row < p .written) × Going (now table) (now rows) p at ⌝ }
-    ensures { λ r. ⌜ Shown (now (table .entry)) (now (rows .entry)) (now (out .exit)) r × (r .place ≡ at) ⌝ }
+pub(crate) fn some_rows(s: &[u8], out: &mut [u8], rows: &[u8], p: Piece, at: usize) -> Piece
+    requires { ⌜ (65536 ≤ length (now out)) × (p .row < p .written) × Going (now s) (now rows) p at ⌝ }
+    ensures { λ r. ⌜ Shown (now (s .entry)) (now (rows .entry)) (now (out .exit)) r × (r .place ≡ at) ⌝ }
 {
     let i = p.row;
     let e = stop(i, p.written);
@@ -66,28 +66,28 @@ pub(crate) fn some_rows(table: &[u8], out: &mut [u8], rows: &[u8], p: Piece, at:
 
 // The page after the last row of this one, and the lines of its first rows.
 pub(crate) fn next_page(
-    table: &[u8],
+    s: &[u8],
     branches: &[u16],
     rows: &mut [u8],
     out: &mut [u8],
     p: Piece,
     at: usize,
 ) -> Piece
-    requires { ⌜ Lent (now branches) (now rows) (now out)
+    requires { ⌜ ReportLent (now branches) (now rows) (now out)
         × (p .written ≤ p .row)
         × (0 < p .left)
-        × Going (now table) (now rows) p at ⌝ }
-    ensures { λ r. ⌜ Shown (now (table .entry)) (now (rows .exit)) (now (out .exit)) r × (r .place ≡ at) ⌝ }
+        × Going (now s) (now rows) p at ⌝ }
+    ensures { λ r. ⌜ Shown (now (s .entry)) (now (rows .exit)) (now (out .exit)) r × (r .place ≡ at) ⌝ }
 {
     let m = (p.nodes as usize) - 1;
     let i = 16 * (p.written - 1);
     let low = two(rows, i) as u16;
     let high = two(rows, i + 2) as u16;
     let floor = p.floor;
-    let k = ask(table, &branches[..m], floor, low, high, rows);
+    let k = ask(s, &branches[..m], floor, low, high, rows);
     let mut q = p;
     q.written = k.written;
     q.left = k.left;
     q.row = 0;
-    some_rows(table, out, rows, q, at)
+    some_rows(s, out, rows, q, at)
 }

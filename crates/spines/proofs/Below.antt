@@ -4,11 +4,11 @@ use mathlib.Core.Path.{_≡_, refl, sym, _∙_}
 use mathlib.Core.Logic.{_≢_, ⊎-elim}
 use native.Mathlib.Omega.{arith}
 use native.Mathlib.Decide.{ℕ-discrete}
-use Rattle.tree.specs.Rooted.{Above, self, up}
+use Rattle.tree.specs.work.Rooted.{Above, self, up}
 use Rattle.tree.proofs.Rooted.{above-inv}
 use Rattle.tree.proofs.Above.{Tree, above-trans, above-chain, place-up}
 use Rattle.spines.specs.Spine.{Under, here, step, Leaf, LeafUnder}
-use Rattle.spines.specs.Parents.{Child}
+use Rattle.spines.specs.work.Parents.{Child}
 
 pub under-above : {n : ℕ} {par : ℕ → ℕ} {t x : ℕ} → Under (Child n par) n t x → Above par t x
 under-above here = self
@@ -20,7 +20,8 @@ leaf-above h = under-above (h .under)
 module _ {n : ℕ} {par place : ℕ → ℕ} (T : Tree n par place) where
   pub above-under : {t x : ℕ} → x < n → Above par t x → Under (Child n par) n t x
   above-under b self = here
-  above-under {t} {x} b (up z e h) = step (record { fits = b; low = z; of = e }) (above-under (rw e at (T .fits x b z)) h)
+  above-under {t} {x} b (up z e h) =
+      step (record { fits = b; low = z; of = e }) (above-under (rw e at (T .fits x b z)) h)
 
   pub leaf-under : {t x : ℕ} → Leaf (Child n par) n x → Above par t x → LeafUnder (Child n par) n t x
   leaf-under l h = record { leaf = l; under = above-under (l .fits) h }
@@ -50,4 +51,6 @@ module _ {n : ℕ} {par place : ℕ → ℕ} (T : Tree n par place) where
   via-one {p} {c} {d} k l h j = ⊎-elim (λ a. side k l a) (λ a. sym (side l k a)) (above-chain h j)
     where
       side : {c d : ℕ} → Child n par p c → Child n par p d → Above par c d → c ≡ d
-      side {c} {d} k l a = ⊎-elim (λ e. e) (λ t. absurd (omega (arith, child-later k, place-up T (child-fits l) (rw (l .of) at (t .1))))) (above-inv a)
+      side {c} {d} k l a =
+          ⊎-elim (λ e. e) (λ t. absurd (omega (arith, child-later k, place-up T (child-fits l) (rw (l .of) at (t .1)))))
+          (above-inv a)

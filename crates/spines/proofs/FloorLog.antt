@@ -5,7 +5,7 @@ use native.Mathlib.Numerals.{add-one}
 use native.Mathlib.Decide.{decLe}
 use native.Mathlib.Nat.{pow-suc}
 use lib.Pow.{pow-pos, pow-mono}
-use Rattle.spines.specs.Hops.{FloorLog}
+use Rattle.spines.specs.FloorLog.{FloorLog}
 
 pub log-least : (i x k : ℕ) → 2 ^ i ≤ x → FloorLog x k → i ≤ k
 log-least i x k h f = pick (decLe i k)

@@ -6,24 +6,28 @@ use mathlib.Core.List.{List}
 use native.Mathlib.Omega.{arith}
 use native.Mathlib.Decide.{ℕ-discrete}
 use lib.ListN.{set}
-use Rattle.arrays.specs.Filled.{at, Filled}
-use Rattle.tree.specs.Grown.{Grown}
+use Rattle.arrays.specs.At.{at}
+use Rattle.arrays.specs.work.Filled.{Filled}
+use Rattle.tree.specs.work.Grown.{Grown}
 use Rattle.tree.proofs.Grown.{not-root}
 use Rattle.tree.proofs.Sweep.{Swept, swept-root, swept-parent, swept-next, swept-all}
 use Rattle.spines.specs.Spine.{Head, top, down}
-use Rattle.spines.specs.Parents.{Child, HeadsAll}
-use Rattle.spines.specs.Work.{LeavesAll, Bests, Follows}
+use Rattle.spines.specs.work.Parents.{Child, HeadsAll}
+use Rattle.spines.specs.work.Sweeps.{LeavesAll, BestChildren, Follows}
 use Rattle.spines.proofs.MainSweep.{best-main, main-best}
 
 -- the nodes at the places below i have their heads
 abbrev pub Heads : ℕ → List ℕ → List ℕ → ℕ → List ℕ → Type 0
 Heads n parent order i head = Swept (λ x h. Head (Child n (at parent)) n h x) i order head
 
-module _ {n : ℕ} {parent order place lv main : List ℕ} (g : Grown n parent order place) (L : LeavesAll n parent lv) (B : Bests n parent lv n main) where
+module _ {n : ℕ} {parent order place lv main : List ℕ} (g : Grown n parent order place) (L : LeavesAll n parent lv)
+    (B : BestChildren n parent lv n main) where
   pub heads-one : (head : List ℕ) → Filled 4096 0 head → Heads n parent order 1 head
-  heads-one head f = swept-root g (f .long) (rw (f .each 0 (omega arith)) (top (g .some .0) (λ p k. k .child .low refl)))
+  heads-one head f =
+      swept-root g (f .long) (rw (f .each 0 (omega arith)) (top (g .some .0) (λ p k. k .child .low refl)))
 
-  pub heads-more : (i : ℕ) (head : List ℕ) (v p r : ℕ) → 0 < i → i < n → v ≡ at order i → p ≡ at parent v → Heads n parent order i head → Follows v (at main p) (at head p) r → Heads n parent order (i + 1) (set head v r)
+  pub heads-more : (i : ℕ) (head : List ℕ) (v p r : ℕ) → 0 < i → i < n → v ≡ at order i → p ≡ at parent v
+      → Heads n parent order i head → Follows v (at main p) (at head p) r → Heads n parent order (i + 1) (set head v r)
   heads-more i head v p r z b ev ep s f = swept-next g s v r b ev (new (ℕ-discrete (at main p) v))
     where
       bv : v < n
@@ -36,7 +40,9 @@ module _ {n : ℕ} {parent order place lv main : List ℕ} (g : Grown n parent o
       bp = rw ep (g .fits v bv zv)
 
       new : Dec (at main p ≡ v) → Head (Child n (at parent)) n r v
-      new (yes e) = rw (f .same e) (down (rw e at (best-main L B p bp (λ q. omega (arith, g .some .1, bv)))) (swept-parent g s v p z b ev ep))
+      new (yes e) =
+          rw (f .same e)
+          (down (rw e at (best-main L B p bp (λ q. omega (arith, g .some .1, bv)))) (swept-parent g s v p z b ev ep))
       new (no m) = rw (f .own m) (top bv (λ q k. m (main-best L B p v bp (g .some .1) (rw (ep ∙ k .child .of) k))))
 
   pub heads-all : (i : ℕ) (head : List ℕ) → n ≤ i → Heads n parent order i head → HeadsAll n parent head

@@ -1,15 +1,16 @@
--- Leaves below a node: two children have no more than their parent, and every node has some, a number that can be found.
+-- Leaves below a node: two children have no more than their parent, and every node has some, a number that can be
+-- found.
 use Prim.Native.Nat.{ℕ, zero, suc, _+_, _≤_, _<_}
 use mathlib.Core.Path.{_≡_, refl}
 use mathlib.Core.Logic.{_⊎_, inl, inr, _≢_, ⊎-elim}
 use native.Mathlib.Omega.{arith}
 use native.Mathlib.Decide.{ℕ-discrete, decLt}
-use Rattle.tree.specs.Rooted.{Above, self, up}
+use Rattle.tree.specs.work.Rooted.{Above, self, up}
 use Rattle.tree.proofs.Rooted.{above-inv}
 use Rattle.tree.proofs.Counts.{count-le, count-same, count-add, count-dec, count-some}
 use Rattle.tree.proofs.Above.{Tree, above-trans}
 use Rattle.spines.specs.Spine.{Leaf, LeafUnder, Leaves}
-use Rattle.spines.specs.Parents.{Child}
+use Rattle.spines.specs.work.Parents.{Child}
 use Rattle.spines.proofs.Below.{leaf-above, leaf-under, child-later, child-below, via-one}
 
 -- is there one below n
@@ -28,8 +29,13 @@ some? {P} d (suc n) = pick (d n) (some? d n)
 
 module _ {n : ℕ} {par place : ℕ → ℕ} (T : Tree n par place) where
   -- two different children have no more leaves than their parent
-  pub leaves-two : {p c d a b k : ℕ} → Child n par p c → Child n par p d → c ≢ d → Leaves (Child n par) n c a → Leaves (Child n par) n d b → Leaves (Child n par) n p k → a + b ≤ k
-  leaves-two {p} {c} {d} kc kd m la lb lk = count-le (λ x h. sub x h) (count-add {R = λ x. LeafUnder (Child n par) n c x ⊎ LeafUnder (Child n par) n d x} la lb (λ x h j. m (via-one T kc kd (leaf-above h) (leaf-above j))) (λ x h. h) (λ x h. inl h) (λ x h. inr h)) lk
+  pub leaves-two : {p c d a b k : ℕ} → Child n par p c → Child n par p d → c ≢ d → Leaves (Child n par) n c a
+      → Leaves (Child n par) n d b → Leaves (Child n par) n p k → a + b ≤ k
+  leaves-two {p} {c} {d} kc kd m la lb lk =
+      count-le (λ x h. sub x h)
+      (count-add {R = λ x. LeafUnder (Child n par) n c x ⊎ LeafUnder (Child n par) n d x} la lb
+      (λ x h j. m (via-one T kc kd (leaf-above h) (leaf-above j))) (λ x h. h) (λ x h. inl h) (λ x h. inr h))
+      lk
     where
       sub : (x : ℕ) → LeafUnder (Child n par) n c x ⊎ LeafUnder (Child n par) n d x → LeafUnder (Child n par) n p x
       sub x (inl h) = leaf-under T (h .leaf) (child-below T kc (leaf-above h))
@@ -43,7 +49,8 @@ module _ {n : ℕ} {par place : ℕ → ℕ} (T : Tree n par place) where
   above? t zero x b l = absurd (omega arith)
   above? t (suc m) x b l = pick (ℕ-discrete t x) (ℕ-discrete x 0) (above? t m (par x))
     where
-      pick : Dec (t ≡ x) → Dec (x ≡ 0) → (par x < n → place (par x) < m → Dec (Above par t (par x))) → Dec (Above par t x)
+      pick : Dec (t ≡ x) → Dec (x ≡ 0) → (par x < n → place (par x) < m → Dec (Above par t (par x)))
+          → Dec (Above par t x)
       pick (yes e) z ih = yes (rw e self)
       pick (no e) (yes z) ih = no (λ h. ⊎-elim e (λ k. k .0 z) (above-inv h))
       pick (no e) (no z) ih = more (ih (T .fits x b z) (omega (arith, T .earlier x b z)))
@@ -81,7 +88,9 @@ module _ {n : ℕ} {par place : ℕ → ℕ} (T : Tree n par place) where
       pick (no b) = no (λ h. b (h .leaf .fits))
 
   unfoldable pub leaves-some : (t : ℕ) → (k : ℕ) × Leaves (Child n par) n t k
-  leaves-some t = let c = count-dec n (leaf-under? t) in (c .0, count-same (λ x h. h .1) (λ x h. (h .leaf .fits, h)) (c .1))
+  leaves-some t =
+      let c = count-dec n (leaf-under? t) in
+      (c .0, count-same (λ x h. h .1) (λ x h. (h .leaf .fits, h)) (c .1))
 
   -- how many leaves t has
   unfoldable pub many : ℕ → ℕ
@@ -96,8 +105,12 @@ module _ {n : ℕ} {par place : ℕ → ℕ} (T : Tree n par place) where
   leaf-some zero x b l = absurd (omega (arith, T .within x b))
   leaf-some (suc m) x b l = pick (some? (child? x) n) (leaf-some m)
     where
-      pick : Dec ((c : ℕ) × (c < n) × Child n par x c) → ((c : ℕ) → c < n → n ≤ place c + m → (y : ℕ) × LeafUnder (Child n par) n c y) → (y : ℕ) × LeafUnder (Child n par) n x y
-      pick (yes t) ih = let r = ih (t .0) (t .1) (omega (arith, child-later T (t .2))) in (r .0, leaf-under T (r .1 .leaf) (child-below T (t .2) (leaf-above (r .1))))
+      pick : Dec ((c : ℕ) × (c < n) × Child n par x c)
+          → ((c : ℕ) → c < n → n ≤ place c + m → (y : ℕ) × LeafUnder (Child n par) n c y)
+          → (y : ℕ) × LeafUnder (Child n par) n x y
+      pick (yes t) ih =
+          let r = ih (t .0) (t .1) (omega (arith, child-later T (t .2))) in
+          (r .0, leaf-under T (r .1 .leaf) (child-below T (t .2) (leaf-above (r .1))))
       pick (no q) ih = (x, leaf-under T (record { fits = b; none = λ c k. q (c, k .fits, k) }) self)
 
   pub many-some : (x : ℕ) → x < n → 0 < many x

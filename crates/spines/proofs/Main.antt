@@ -7,19 +7,23 @@ use native.Mathlib.Decide.{ℕ-discrete, decLe}
 use Rattle.tree.proofs.Counts.{count-unique}
 use Rattle.tree.proofs.Above.{Tree}
 use Rattle.spines.specs.Spine.{Main}
-use Rattle.spines.specs.Parents.{Child}
+use Rattle.spines.specs.work.Parents.{Child}
 use Rattle.spines.proofs.Leaves.{child?, many, many-leaves}
 
 module _ {n : ℕ} {par place : ℕ → ℕ} (T : Tree n par place) where
   -- the best of the children below c
   abbrev pub BestOf : ℕ → ℕ → ℕ → Type 0
-  BestOf p c q = Child n par p q × ((d : ℕ) → d < c → Child n par p d → (many T d ≤ many T q) × (many T d ≡ many T q → q ≤ d)) × (q < c)
+  BestOf p c q =
+      Child n par p q
+      × ((d : ℕ) → d < c → Child n par p d → (many T d ≤ many T q) × (many T d ≡ many T q → q ≤ d))
+      × (q < c)
 
   unfoldable pub best : (p c : ℕ) → ((q : ℕ) × BestOf p c q) ⊎ ((d : ℕ) → d < c → ¬ Child n par p d)
   best p zero = inr (λ d h. absurd (omega arith))
   best p (suc c) = pick (child? T p c) (best p c)
     where
-      pick : Dec (Child n par p c) → ((q : ℕ) × BestOf p c q) ⊎ ((d : ℕ) → d < c → ¬ Child n par p d) → ((q : ℕ) × BestOf p (suc c) q) ⊎ ((d : ℕ) → d < suc c → ¬ Child n par p d)
+      pick : Dec (Child n par p c) → ((q : ℕ) × BestOf p c q) ⊎ ((d : ℕ) → d < c → ¬ Child n par p d)
+          → ((q : ℕ) × BestOf p (suc c) q) ⊎ ((d : ℕ) → d < suc c → ¬ Child n par p d)
       pick (no m) (inr f) = inr (λ d h k. last d h k (ℕ-discrete d c))
         where
           last : (d : ℕ) → d < suc c → Child n par p d → Dec (d ≡ c) → ⊥
@@ -27,25 +31,32 @@ module _ {n : ℕ} {par place : ℕ → ℕ} (T : Tree n par place) where
           last d h k (no e) = f d (omega arith) k
       pick (no m) (inl t) = inl (t .0, (t .1 .0, (λ d h k. last d h k (ℕ-discrete d c)), omega (arith, t .1 .2)))
         where
-          last : (d : ℕ) → d < suc c → Child n par p d → Dec (d ≡ c) → (many T d ≤ many T (t .0)) × (many T d ≡ many T (t .0) → t .0 ≤ d)
+          last : (d : ℕ) → d < suc c → Child n par p d → Dec (d ≡ c)
+              → (many T d ≤ many T (t .0)) × (many T d ≡ many T (t .0) → t .0 ≤ d)
           last d h k (yes e) = absurd (m (rw e at k))
           last d h k (no e) = t .1 .1 d (omega arith) k
       pick (yes j) (inr f) = inl (c, (j, (λ d h k. last d h k (ℕ-discrete d c)), omega arith))
         where
-          last : (d : ℕ) → d < suc c → Child n par p d → Dec (d ≡ c) → (many T d ≤ many T c) × (many T d ≡ many T c → c ≤ d)
+          last : (d : ℕ) → d < suc c → Child n par p d → Dec (d ≡ c)
+              → (many T d ≤ many T c) × (many T d ≡ many T c → c ≤ d)
           last d h k (yes e) = (omega (arith, ap (many T) e), λ q. omega arith)
           last d h k (no e) = absurd (f d (omega arith) k)
       pick (yes j) (inl t) = which (decLe (many T c) (many T (t .0)))
         where
-          stay : many T c ≤ many T (t .0) → (d : ℕ) → d < suc c → Child n par p d → Dec (d ≡ c) → (many T d ≤ many T (t .0)) × (many T d ≡ many T (t .0) → t .0 ≤ d)
+          stay : many T c ≤ many T (t .0) → (d : ℕ) → d < suc c → Child n par p d → Dec (d ≡ c)
+              → (many T d ≤ many T (t .0)) × (many T d ≡ many T (t .0) → t .0 ≤ d)
           stay l d h k (yes e) = (omega (arith, ap (many T) e), λ q. omega (arith, t .1 .2))
           stay l d h k (no e) = t .1 .1 d (omega arith) k
 
-          beat : many T (t .0) < many T c → (d : ℕ) → d < suc c → Child n par p d → Dec (d ≡ c) → (many T d ≤ many T c) × (many T d ≡ many T c → c ≤ d)
+          beat : many T (t .0) < many T c → (d : ℕ) → d < suc c → Child n par p d → Dec (d ≡ c)
+              → (many T d ≤ many T c) × (many T d ≡ many T c → c ≤ d)
           beat l d h k (yes e) = (omega (arith, ap (many T) e), λ q. omega arith)
-          beat l d h k (no e) = let o = t .1 .1 d (omega arith) k in (omega (arith, o .0), λ q. absurd (omega (arith, o .0)))
+          beat l d h k (no e) =
+              let o = t .1 .1 d (omega arith) k in
+              (omega (arith, o .0), λ q. absurd (omega (arith, o .0)))
 
-          which : Dec (many T c ≤ many T (t .0)) → ((q : ℕ) × BestOf p (suc c) q) ⊎ ((d : ℕ) → d < suc c → ¬ Child n par p d)
+          which : Dec (many T c ≤ many T (t .0))
+              → ((q : ℕ) × BestOf p (suc c) q) ⊎ ((d : ℕ) → d < suc c → ¬ Child n par p d)
           which (yes l) = inl (t .0, (t .1 .0, (λ d h k. stay l d h k (ℕ-discrete d c)), omega (arith, t .1 .2)))
           which (no l) = inl (c, (j, (λ d h k. beat (omega arith) d h k (ℕ-discrete d c)), omega arith))
 

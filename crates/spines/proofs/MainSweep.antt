@@ -1,4 +1,5 @@
--- The child with most leaves of each node, by one sweep over the node numbers: a strict test keeps the lowest among equals.
+-- The child with most leaves of each node, by one sweep over the node numbers: a strict test keeps the lowest among
+-- equals.
 use Prim.Native.Nat.{ℕ, _+_, _≤_, _<_}
 use mathlib.Core.Path.{_≡_, sym, ap, _∙_}
 use mathlib.Core.Logic.{_≢_}
@@ -7,14 +8,15 @@ use native.Mathlib.Omega.{arith}
 use native.Mathlib.Decide.{ℕ-discrete, decLe}
 use lib.ListN.{set, length-set}
 use lib.Seq.{getD-set-same, getD-set-other}
-use Rattle.arrays.specs.Filled.{at, Filled}
-use Rattle.tree.specs.Grown.{Grown}
+use Rattle.arrays.specs.At.{at}
+use Rattle.arrays.specs.work.Filled.{Filled}
+use Rattle.tree.specs.work.Grown.{Grown}
 use Rattle.tree.proofs.Counts.{count-unique}
 use Rattle.spines.specs.Spine.{Main}
-use Rattle.spines.specs.Parents.{Child}
-use Rattle.spines.specs.Work.{LeavesAll, Best, Bests, Taken}
+use Rattle.spines.specs.work.Parents.{Child}
+use Rattle.spines.specs.work.Sweeps.{LeavesAll, BestChild, BestChildren, MainTaken}
 
-pub bests-none : (n : ℕ) (parent lv main : List ℕ) → n ≤ 4096 → Filled 4096 4096 main → Bests n parent lv 1 main
+pub bests-none : (n : ℕ) (parent lv main : List ℕ) → n ≤ 4096 → Filled 4096 4096 main → BestChildren n parent lv 1 main
 bests-none n parent lv main b f = record {
   long = f .long;
   each = λ p l. let e = f .each p (omega arith) in record {
@@ -25,8 +27,11 @@ bests-none n parent lv main b f = record {
   };
 }
 
-pub bests-more : (n : ℕ) (parent lv main : List ℕ) (c p r : ℕ) → n ≤ 4096 → c < n → c ≢ 0 → at parent c < n → p ≡ at parent c → Bests n parent lv c main → Taken lv (at main p) c r → Bests n parent lv (c + 1) (set main p r)
-bests-more n parent lv main c p r small bc z fits ep s t = record { long = simp length-set (s .long); each = λ q l. pick q l (ℕ-discrete q p) }
+pub bests-more : (n : ℕ) (parent lv main : List ℕ) (c p r : ℕ) → n ≤ 4096 → c < n → c ≢ 0 → at parent c < n
+    → p ≡ at parent c → BestChildren n parent lv c main → MainTaken lv (at main p) c r
+    → BestChildren n parent lv (c + 1) (set main p r)
+bests-more n parent lv main c p r small bc z fits ep s t =
+    record { long = simp length-set (s .long); each = λ q l. pick q l (ℕ-discrete q p) }
   where
     bp : p < n
     bp = rw ep fits
@@ -34,7 +39,7 @@ bests-more n parent lv main c p r small bc z fits ep s t = record { long = simp 
     kid : Child n (at parent) p c
     kid = record { fits = bc; low = z; of = sym ep }
 
-    old : Best n (at parent) (at lv) c p (at main p)
+    old : BestChild n (at parent) (at lv) c p (at main p)
     old = s .each p bp
 
     -- another node has no child more
@@ -45,7 +50,7 @@ bests-more n parent lv main c p r small bc z fits ep s t = record { long = simp 
         which (yes e) = absurd (m (sym (k .of) ∙ ap (at parent) e ∙ sym ep))
         which (no e) = omega arith
 
-    here : Dec (at main p ≡ 4096) → Dec (at lv c ≤ at lv (at main p)) → Best n (at parent) (at lv) (c + 1) p r
+    here : Dec (at main p ≡ 4096) → Dec (at lv c ≤ at lv (at main p)) → BestChild n (at parent) (at lv) (c + 1) p r
     here (yes e) d = rw (t .first e) (record {
       none = λ q. absurd (omega arith);
       below = λ m. omega arith;
@@ -53,7 +58,8 @@ bests-more n parent lv main c p r small bc z fits ep s t = record { long = simp 
       most = λ m d h k. only d h k (ℕ-discrete d c);
     })
       where
-        only : (d : ℕ) → d < c + 1 → Child n (at parent) p d → Dec (d ≡ c) → (at lv d ≤ at lv c) × (at lv d ≡ at lv c → c ≤ d)
+        only : (d : ℕ) → d < c + 1 → Child n (at parent) p d → Dec (d ≡ c)
+            → (at lv d ≤ at lv c) × (at lv d ≡ at lv c → c ≤ d)
         only d h k (yes f) = (omega (arith, ap (at lv) f), λ q. omega arith)
         only d h k (no f) = absurd (old .none e d (omega arith) k)
     here (no e) (no worse) = rw (t .more e (omega arith)) (record {
@@ -63,9 +69,12 @@ bests-more n parent lv main c p r small bc z fits ep s t = record { long = simp 
       most = λ m f h k. beat f h k (ℕ-discrete f c);
     })
       where
-        beat : (d : ℕ) → d < c + 1 → Child n (at parent) p d → Dec (d ≡ c) → (at lv d ≤ at lv c) × (at lv d ≡ at lv c → c ≤ d)
+        beat : (d : ℕ) → d < c + 1 → Child n (at parent) p d → Dec (d ≡ c)
+            → (at lv d ≤ at lv c) × (at lv d ≡ at lv c → c ≤ d)
         beat d h k (yes f) = (omega (arith, ap (at lv) f), λ q. omega arith)
-        beat d h k (no f) = let o = old .most e d (omega arith) k in (omega (arith, o .0), λ q. absurd (omega (arith, o .0)))
+        beat d h k (no f) =
+            let o = old .most e d (omega arith) k in
+            (omega (arith, o .0), λ q. absurd (omega (arith, o .0)))
     here (no e) (yes d) = rw (t .less e d) (record {
       none = λ q. absurd (e q);
       below = λ m. omega (arith, old .below e);
@@ -73,12 +82,15 @@ bests-more n parent lv main c p r small bc z fits ep s t = record { long = simp 
       most = λ m f h k. stay f h k (ℕ-discrete f c);
     })
       where
-        stay : (f : ℕ) → f < c + 1 → Child n (at parent) p f → Dec (f ≡ c) → (at lv f ≤ at lv (at main p)) × (at lv f ≡ at lv (at main p) → at main p ≤ f)
+        stay : (f : ℕ) → f < c + 1 → Child n (at parent) p f → Dec (f ≡ c)
+            → (at lv f ≤ at lv (at main p)) × (at lv f ≡ at lv (at main p) → at main p ≤ f)
         stay f h k (yes q) = (omega (arith, ap (at lv) q), λ w. omega (arith, old .below e))
         stay f h k (no q) = old .most e f (omega arith) k
 
-    pick : (q : ℕ) → q < n → Dec (q ≡ p) → Best n (at parent) (at lv) (c + 1) q (at (set main p r) q)
-    pick q l (yes e) = rw (e, getD-set-same main p r 0 (omega (arith, s .long))) (here (ℕ-discrete (at main p) 4096) (decLe (at lv c) (at lv (at main p))))
+    pick : (q : ℕ) → q < n → Dec (q ≡ p) → BestChild n (at parent) (at lv) (c + 1) q (at (set main p r) q)
+    pick q l (yes e) =
+        rw (e, getD-set-same main p r 0 (omega (arith, s .long)))
+        (here (ℕ-discrete (at main p) 4096) (decLe (at lv c) (at lv (at main p))))
     pick q l (no m) = rw (getD-set-other main p q r 0 m) (let b = s .each q l in record {
       none = λ e d h k. b .none e d (other q m d h k) k;
       below = λ e. omega (arith, b .below e);
@@ -86,7 +98,8 @@ bests-more n parent lv main c p r small bc z fits ep s t = record { long = simp 
       most = λ e d h k. b .most e d (other q m d h k) k;
     })
 
-pub bests-all : (n : ℕ) (parent lv : List ℕ) (c : ℕ) (main : List ℕ) → n ≤ c → Bests n parent lv c main → Bests n parent lv n main
+pub bests-all : (n : ℕ) (parent lv : List ℕ) (c : ℕ) (main : List ℕ) → n ≤ c → BestChildren n parent lv c main
+    → BestChildren n parent lv n main
 bests-all n parent lv c main h s = record {
   long = s .long;
   each = λ p l. let b = s .each p l in record {
@@ -98,7 +111,7 @@ bests-all n parent lv c main h s = record {
 }
 
 -- the array's child is the main child exactly
-module _ {n : ℕ} {parent lv main : List ℕ} (L : LeavesAll n parent lv) (B : Bests n parent lv n main) where
+module _ {n : ℕ} {parent lv main : List ℕ} (L : LeavesAll n parent lv) (B : BestChildren n parent lv n main) where
   pub best-main : (p : ℕ) → p < n → at main p ≢ 4096 → Main (Child n (at parent)) n p (at main p)
   best-main p b m = record {
     child = B .each p b .child m;
@@ -118,16 +131,19 @@ module _ {n : ℕ} {parent lv main : List ℕ} (L : LeavesAll n parent lv) (B : 
       pick (no m) =
           let o = B .each p b .most m c (k .child .fits) (k .child) in
           let i = B .each p b .child m in
-          let q = k .most (at main p) (at lv c) (at lv (at main p)) i (L .each c (k .child .fits)) (L .each (at main p) (i .fits)) in
+          let q = k .most (at main p) (at lv c) (at lv (at main p)) i (L .each c (k .child .fits))
+          (L .each (at main p) (i .fits)) in
           let e : at lv c ≡ at lv (at main p) = omega (arith, o .0, q .0) in
           omega (arith, o .1 e, q .1 (sym e))
 
-pub best-small : {n : ℕ} {parent lv main : List ℕ} {c : ℕ} (p : ℕ) → n ≤ 4096 → c ≤ n → p < n → Bests n parent lv c main → at main p ≤ 4096
+pub best-small : {n : ℕ} {parent lv main : List ℕ} {c : ℕ} (p : ℕ) → n ≤ 4096 → c ≤ n → p < n
+    → BestChildren n parent lv c main → at main p ≤ 4096
 best-small {main} p b k l s = pick (ℕ-discrete (at main p) 4096)
   where
     pick : Dec (at main p ≡ 4096) → at main p ≤ 4096
     pick (yes e) = omega arith
     pick (no m) = omega (arith, s .each p l .below m)
 
-pub read-child : {n : ℕ} {parent order place : List ℕ} → Grown n parent order place → (c p : ℕ) → 0 < c → c < n → p ≡ at parent c → p < n
+pub read-child : {n : ℕ} {parent order place : List ℕ} → Grown n parent order place → (c p : ℕ) → 0 < c → c < n
+    → p ≡ at parent c → p < n
 read-child g c p z b e = rw e (g .fits c b (omega arith))

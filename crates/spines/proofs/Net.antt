@@ -1,4 +1,5 @@
--- The children by the walk's parents are the children of the net. So a node's head by the walk's arrays is its head; and each node has one.
+-- The children by the walk's parents are the children of the net. So a node's head by the walk's arrays is its head;
+-- and each node has one.
 use Prim.Native.Nat.{ℕ, _+_, _<_}
 use mathlib.Core.Path.{_≡_, refl, sym, ap, _∙_}
 use mathlib.Core.Logic.{_⊎_, inl, inr, _≢_, ⊎-elim}
@@ -6,7 +7,7 @@ use mathlib.Core.List.{List, [], _∷_, _++_}
 use native.Mathlib.Omega.{arith}
 use Rattle.arrays.specs.Members.{In}
 use Rattle.tree.specs.Graph.{Ends, Forest}
-use Rattle.tree.specs.Rooted.{Above, self, up, Rooted}
+use Rattle.tree.specs.work.Rooted.{Above, self, up, Rooted}
 use Rattle.arrays.proofs.Members.{distinct-snoc}
 use Rattle.tree.proofs.Rows.{ends-flip, other}
 use Rattle.tree.proofs.Joined.{walk-snoc}
@@ -18,27 +19,32 @@ use Rattle.tree.proofs.Above.{Tree, above-trans, fits-up, place-up}
 use Rattle.tree.proofs.Climbs.{root-above}
 use Rattle.tree.proofs.Route.{Route, route}
 use Rattle.spines.specs.Spine.{ChildOf, Head}
-use Rattle.spines.specs.Parents.{Child}
+use Rattle.spines.specs.work.Parents.{Child}
 use Rattle.spines.proofs.Head.{head-only}
 use Rattle.spines.proofs.Same.{same-head}
 
 snoc-last : (l m : List ℕ) (a b : ℕ) → l ++ (a ∷ []) ≡ m ++ (b ∷ []) → a ≡ b
 snoc-last l m a b e =
     let h : length l ≡ length m = omega (arith, simp length-append at (ap length e)) in
-    sym (getD-append-add l (a ∷ []) 0 0) ∙ ap (λ k. getD k (length l + 0) 0) e ∙ ap (λ i. getD (m ++ (b ∷ [])) (i + 0) 0) h ∙ getD-append-add m (b ∷ []) 0 0
+    sym (getD-append-add l (a ∷ []) 0 0) ∙ ap (λ k. getD k (length l + 0) 0) e
+    ∙ ap (λ i. getD (m ++ (b ∷ [])) (i + 0) 0) h ∙ getD-append-add m (b ∷ []) 0 0
 
 -- a child has one parent, since the path from the root to it is one
-pub parent-only : {u v : ℕ → ℕ} {k n : ℕ} → Forest u v k → (p q c : ℕ) → ChildOf u v k n p c → ChildOf u v k n q c → p ≡ q
+pub parent-only : {u v : ℕ → ℕ} {k n : ℕ} → Forest u v k → (p q c : ℕ) → ChildOf u v k n p c → ChildOf u v k n q c
+    → p ≡ q
 parent-only {u} {v} F p q c i j =
-    let e = unique u v F (walk-snoc u v (i .walk) (i .low) (i .ends)) (walk-snoc u v (j .walk) (j .low) (j .ends)) (distinct-snoc (0 ∷ i .nodes) c (i .once) (i .new)) (distinct-snoc (0 ∷ j .nodes) c (j .once) (j .new)) in
+    let e = unique u v F (walk-snoc u v (i .walk) (i .low) (i .ends)) (walk-snoc u v (j .walk) (j .low) (j .ends))
+    (distinct-snoc (0 ∷ i .nodes) c (i .once) (i .new)) (distinct-snoc (0 ∷ j .nodes) c (j .once) (j .new)) in
     let r : i .row ≡ j .row = snoc-last (i .rows) (j .rows) (i .row) (j .row) (e .0) in
     other u v (ends-flip u v (rw r at (i .ends))) (ends-flip u v (j .ends))
 
 -- each node has one head
-pub net-head-only : {u v : ℕ → ℕ} {k n : ℕ} → Forest u v k → {h g x : ℕ} → Head (ChildOf u v k n) n h x → Head (ChildOf u v k n) n g x → h ≡ g
+pub net-head-only : {u v : ℕ → ℕ} {k n : ℕ} → Forest u v k → {h g x : ℕ} → Head (ChildOf u v k n) n h x
+    → Head (ChildOf u v k n) n g x → h ≡ g
 net-head-only F p q = head-only (parent-only F) p q
 
-module _ {u v : ℕ → ℕ} {k n : ℕ} {par row place : ℕ → ℕ} (R : Rooted u v k n par row place) (T : Tree n par place) (some : 0 < n) where
+module _ {u v : ℕ → ℕ} {k n : ℕ} {par row place : ℕ → ℕ} (R : Rooted u v k n par row place) (T : Tree n par place)
+    (some : 0 < n) where
   -- the path from the root to x, whose nodes are those above x
   root-route : (x : ℕ) → x < n → Route R T 0 0 x
   root-route x b = route R T some b self (root-above T x b) (λ z h g. h .not (top-is z (h .above)))

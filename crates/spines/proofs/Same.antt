@@ -23,7 +23,11 @@ module _ {C D : ℕ → ℕ → Type 0} {n : ℕ} (to : (p c : ℕ) → C p c �
 
 module _ {C D : ℕ → ℕ → Type 0} {n : ℕ} (to : (p c : ℕ) → C p c → D p c) (fro : (p c : ℕ) → D p c → C p c) where
   same-main : (p c : ℕ) → Main C n p c → Main D n p c
-  same-main p c m = record { child = to p c (m .child); most = λ d a b k x y. m .most d a b (fro p d k) (same-leaves fro to c a x) (same-leaves fro to d b y) }
+  same-main p c m =
+      record {
+        child = to p c (m .child);
+        most = λ d a b k x y. m .most d a b (fro p d k) (same-leaves fro to c a x) (same-leaves fro to d b y);
+      }
 
 module _ {C D : ℕ → ℕ → Type 0} {n : ℕ} (to : (p c : ℕ) → C p c → D p c) (fro : (p c : ℕ) → D p c → C p c) where
   pub same-head : {h x : ℕ} → Head C n h x → Head D n h x

@@ -6,13 +6,14 @@ use mathlib.Core.List.{List}
 use native.Mathlib.Omega.{arith}
 use native.Mathlib.Decide.{ℕ-discrete}
 use lib.ListN.{set, length-set}
-use Rattle.arrays.specs.Filled.{at, Filled}
+use Rattle.arrays.specs.At.{at}
+use Rattle.arrays.specs.work.Filled.{Filled}
 use Rattle.tree.specs.Count.{Count}
-use Rattle.tree.specs.Rooted.{self}
-use Rattle.tree.specs.Grown.{Grown}
+use Rattle.tree.specs.work.Rooted.{self}
+use Rattle.tree.specs.work.Grown.{Grown}
 use Rattle.tree.proofs.Counts.{count-same, count-one, count-add, count-below}
 use Rattle.tree.proofs.Grown.{root-place}
-use Rattle.spines.specs.Parents.{SizesAll}
+use Rattle.spines.specs.work.Parents.{SizesAll}
 use Rattle.spines.proofs.Backward.{Bel, Given, part-all, given-none, given-next, given-all, sum-fits}
 
 abbrev pub Node : ℕ → ℕ → Type 0
@@ -23,8 +24,11 @@ module _ {n : ℕ} {parent order place : List ℕ} (g : Grown n parent order pla
   node-fits x h = h
 
   -- when all its children have given, a node has one less than its size
-  sizes-settled : (i v : ℕ) (size : List ℕ) → v < n → i ≤ at place v + 1 → at place v < i → Given (Node n) n parent place i size → Count (Bel (Node n) (at parent) v) (at size v + 1)
-  sizes-settled i v size b le lt s = count-add {Q = λ x. x ≡ v} (part-all g (Node n) node-fits i v size b le lt s) (count-one v refl (λ y q. q)) (λ x h q. h .1 q) (λ x h. pick x h (ℕ-discrete x v)) (λ x h. h .0) (λ x q. rw q (record { is = b; below = self }))
+  sizes-settled : (i v : ℕ) (size : List ℕ) → v < n → i ≤ at place v + 1 → at place v < i
+      → Given (Node n) n parent place i size → Count (Bel (Node n) (at parent) v) (at size v + 1)
+  sizes-settled i v size b le lt s =
+      count-add {Q = λ x. x ≡ v} (part-all g (Node n) node-fits i v size b le lt s) (count-one v refl (λ y q. q))
+      (λ x h q. h .1 q) (λ x h. pick x h (ℕ-discrete x v)) (λ x h. h .0) (λ x q. rw q (record { is = b; below = self }))
     where
       pick : (x : ℕ) → Bel (Node n) (at parent) v x → Dec (x ≡ v) → (Bel (Node n) (at parent) v x × (x ≢ v)) ⊎ (x ≡ v)
       pick x h (yes q) = inr q
@@ -34,7 +38,8 @@ module _ {n : ℕ} {parent order place : List ℕ} (g : Grown n parent order pla
   sizes-none size f = given-none g (Node n) node-fits size f
 
   -- a step of the sweep, from i to i - 1
-  module _ (i : ℕ) (size : List ℕ) (v p : ℕ) (z : 1 < i) (b : i ≤ n) (ev : v ≡ at order (i - 1)) (ep : p ≡ at parent v) (s : Given (Node n) n parent place i size) where
+  module _ (i : ℕ) (size : List ℕ) (v p : ℕ) (z : 1 < i) (b : i ≤ n) (ev : v ≡ at order (i - 1)) (ep : p ≡ at parent v)
+      (s : Given (Node n) n parent place i size) where
     own : Count (Bel (Node n) (at parent) v) (at size v + 1)
     own =
         let bv : v < n = rw ev (g .within (i - 1) (omega arith)) in
@@ -47,18 +52,23 @@ module _ {n : ℕ} {parent order place : List ℕ} (g : Grown n parent order pla
     pub sizes-fit : at size p + (at size v + 1) ≤ n
     sizes-fit = sum-fits g (Node n) node-fits i size v p (at size v + 1) z b ev ep s own
 
-    pub sizes-next : Given (Node n) n parent place (i - 1) (set (set size v (at size v + 1)) p (at size p + (at size v + 1)))
+    pub sizes-next : Given (Node n) n parent place (i - 1)
+        (set (set size v (at size v + 1)) p (at size p + (at size v + 1)))
     sizes-next = given-next g (Node n) node-fits i size v p (at size v + 1) z b ev ep s own
 
   module _ (i : ℕ) (size : List ℕ) (h : i ≤ 1) (z : 0 < i) (s : Given (Node n) n parent place i size) where
     root-own : Count (Bel (Node n) (at parent) 0) (at size 0 + 1)
-    root-own = let rp : at place 0 ≡ 0 = root-place g in sizes-settled i 0 size (g .some .0) (omega (arith, rp)) (omega (arith, rp)) s
+    root-own =
+        let rp : at place 0 ≡ 0 = root-place g in
+        sizes-settled i 0 size (g .some .0) (omega (arith, rp)) (omega (arith, rp)) s
 
     pub root-size : at size 0 + 1 ≤ n
     root-size = count-below n (λ x h. h .is) root-own
 
     pub sizes-all : SizesAll n parent (set size 0 (at size 0 + 1))
-    sizes-all = record {
-      long = simp length-set (s .long);
-      each = λ t b. count-same (λ x k. (k .is, k .below)) (λ x k. record { is = k .0; below = k .1 }) (given-all g (Node n) node-fits i size (at size 0 + 1) h z s root-own t b);
-    }
+    sizes-all =
+        record {
+          long = simp length-set (s .long);
+          each = λ t b. count-same (λ x k. (k .is, k .below)) (λ x k. record { is = k .0; below = k .1 })
+              (given-all g (Node n) node-fits i size (at size 0 + 1) h z s root-own t b);
+        }

@@ -1,5 +1,5 @@
--- Hops: the number of different spines that a path touches. And the floor of a binary logarithm, which bounds them.
-use Prim.Native.Nat.{ℕ, _+_, _^_, _≤_, _<_}
+-- Hops: the number of different spines that a path touches.
+use Prim.Native.Nat.{ℕ}
 use mathlib.Core.List.{List, _∷_}
 use Rattle.arrays.specs.Members.{In, Distinct}
 use Rattle.tree.specs.Graph.{First, Walk}
@@ -19,8 +19,3 @@ pub record Hops (u v : ℕ → ℕ) (k n x y h : ℕ) : Type 0 where
   pub walk : Walk u v (First k) x rows nodes y
   pub once : Distinct (x ∷ nodes)
   pub touches : Count (Touched (ChildOf u v k n) n (x ∷ nodes)) h
-
--- k is the floor of the binary logarithm of x
-pub record FloorLog (x k : ℕ) : Type 0 where
-  pub least : 2 ^ k ≤ x
-  pub most : x < 2 ^ (k + 1)

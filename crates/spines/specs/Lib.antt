@@ -1,6 +1,7 @@
--- What a reader must believe of this crate; Work holds only working statements of private functions.
-pub mod Spine
-pub mod Hops
+-- What a reader must believe of this crate; work holds what its functions promise each other, no part of an operation's
+-- promise.
+pub mod FloorLog
 pub mod Heads
-pub mod Parents
-pub mod Work
+pub mod Hops
+pub mod Spine
+pub mod work

@@ -6,7 +6,8 @@ use Rattle.arrays.specs.Members.{In, Distinct}
 use Rattle.tree.specs.Graph.{First, Ends, Walk}
 use Rattle.tree.specs.Count.{Count}
 
--- c is a child of p in a net of k rows and n nodes: the simple path from node 0 leads to p, and one row on to a node that it has not met
+-- c is a child of p in a net of k rows and n nodes: the simple path from node 0 leads to p, and one row on to a node
+-- that it has not met
 pub record ChildOf (u v : ℕ → ℕ) (k n p c : ℕ) : Type 0 where
   pub fits : c < n
   pub rows : List ℕ
@@ -43,7 +44,8 @@ module _ (C : ℕ → ℕ → Type 0) (n : ℕ) where
     pub child : C p c
     pub most : (d a b : ℕ) → C p d → Leaves c a → Leaves d b → (b ≤ a) × (b ≡ a → c ≤ d)
 
-  -- h is the head of x: a spine goes from its head down, each time to the main child, and a node that is no one's main child heads a spine of its own
+  -- h is the head of x: a spine goes from its head down, each time to the main child, and a node that is no one's main
+  -- child heads a spine of its own
   pub data Head : ℕ → ℕ → Type 0 where
     top : {x : ℕ} → x < n → ((p : ℕ) → ¬ Main p x) → Head x x
     down : {h p x : ℕ} → Main p x → Head h p → Head h x

@@ -1,8 +1,8 @@
 // Hops: the number of different spines that the path between two nodes touches, counted along the two climbs to where
 // they meet.
 ghost use Prim.Native.Nat.{_<_};
-ghost use Rattle.spines.specs.Parents.{Spined, HopsBy};
-ghost use Rattle.spines.specs.Work.{One, Climbable, PassedHeads};
+ghost use Rattle.spines.specs.work.Parents.{Spined, HopsBy};
+ghost use Rattle.spines.specs.work.Climbs.{One, HeadsClimbable, PassedHeads};
 
 // 1 where v is its own head, and else 0.
 fn one(head: &[u16; 4096], v: usize) -> usize
@@ -23,8 +23,8 @@ fn passed_heads(
     x: usize,
     t: usize,
 ) -> usize
-    requires { ⌜ Climbable (now parent) (now place) (now head) x t ⌝ }
-    ensures { λ r. ⌜ ((k : Climbable (now (parent .entry)) (now (place .entry)) (now (head .entry)) x t)
+    requires { ⌜ HeadsClimbable (now parent) (now place) (now head) x t ⌝ }
+    ensures { λ r. ⌜ ((k : HeadsClimbable (now (parent .entry)) (now (place .entry)) (now (head .entry)) x t)
         → PassedHeads (k .n) (now (parent .entry)) (now (place .entry)) x t r) ⌝ }
 {
     let mut v = x;

@@ -1,8 +1,8 @@
 // Sweeps over the walk's arrays: the leaves below each node, its main child, its head.
 ghost use Prim.Native.Nat.{_≤_, _<_};
-ghost use Rattle.tree.specs.Grown.{Grown};
-ghost use Rattle.spines.specs.Parents.{HeadsAll};
-ghost use Rattle.spines.specs.Work.{LeavesAll, Least, Bests, Taken, Follows};
+ghost use Rattle.tree.specs.work.Grown.{Grown};
+ghost use Rattle.spines.specs.work.Parents.{HeadsAll};
+ghost use Rattle.spines.specs.work.Sweeps.{LeavesAll, Least, BestChildren, MainTaken, Follows};
 
 // A node with no leaves strictly below it is a leaf and counts itself.
 fn least(x: u16) -> u16
@@ -43,7 +43,7 @@ pub(crate) fn leaves_of(
 // The better of two children, q before c; 4096 is no child.
 fn better(leaves: &[u16; 4096], q: usize, c: usize) -> usize
     requires { ⌜ (q ≤ 4096) × (c < 4096) ⌝ }
-    ensures { λ r. ⌜ Taken (now (leaves .entry)) q c r ⌝ }
+    ensures { λ r. ⌜ MainTaken (now (leaves .entry)) q c r ⌝ }
 {
     if q == 4096 {
         return c;
@@ -64,7 +64,7 @@ pub(crate) fn mains_of(
     main: &mut [u16; 4096],
 )
     requires { ⌜ Grown n (now parent) (now order) (now place) ⌝ }
-    ensures { λ _. ⌜ Bests n (now (parent .entry)) (now (leaves .entry)) n (now (main .exit)) ⌝ }
+    ensures { λ _. ⌜ BestChildren n (now (parent .entry)) (now (leaves .entry)) n (now (main .exit)) ⌝ }
 {
     arrays::fill(main, 4096);
     let mut c = 1;
@@ -99,7 +99,7 @@ pub(crate) fn follow_mains(
 )
     requires { ⌜ Grown n (now parent) (now order) (now place)
         × LeavesAll n (now parent) (now leaves)
-        × Bests n (now parent) (now leaves) n (now main) ⌝ }
+        × BestChildren n (now parent) (now leaves) n (now main) ⌝ }
     ensures { λ _. ⌜ HeadsAll n (now (parent .entry)) (now (head .exit)) ⌝ }
 {
     arrays::fill(head, 0);

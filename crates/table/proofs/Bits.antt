@@ -12,7 +12,8 @@ use mir.Val.{toZ, ofZ, SFits, hbits}
 use mir.ValLaws.{toZ-pos, toZ-ofZ}
 use borrow.Author.Tests.{lt-ltb, le-ltb}
 use Rattle.table.specs.Bytes.{u16At, u32At}
-use Rattle.table.specs.Signed.{Diff, up, down, Within}
+use Rattle.table.specs.work.Diff.{Diff, up, down}
+use Rattle.table.specs.Signed.{InRange}
 use Rattle.table.specs.Row.{rowAt}
 use Rattle.table.specs.declared.Row.{Row}
 use Rattle.table.proofs.Lift.{order, order-back}
@@ -46,20 +47,30 @@ highest : Diff 1000000 0 (pos 1000000)
 highest = up 1000000 refl
 
 -- the weight test on the bits, both ways
-pub within-low : (u : ℕ) → u ≤ 1000000 → Within (toZ w32 u)
-within-low u h = (order-back lowest (bits-diff-low u (omega arith)) (omega arith), order-back (bits-diff-low u (omega arith)) highest (omega arith))
+pub within-low : (u : ℕ) → u ≤ 1000000 → InRange (toZ w32 u)
+within-low u h = (
+  order-back lowest (bits-diff-low u (omega arith)) (omega arith),
+  order-back (bits-diff-low u (omega arith)) highest (omega arith),
+)
 
-pub within-high : (u : ℕ) → 4293967296 ≤ u → u < 4294967296 → Within (toZ w32 u)
-within-high u h k = (order-back lowest (bits-diff-high u (omega arith) k) (omega arith), order-back (bits-diff-high u (omega arith) k) highest (omega arith))
+pub within-high : (u : ℕ) → 4293967296 ≤ u → u < 4294967296 → InRange (toZ w32 u)
+within-high u h k = (
+  order-back lowest (bits-diff-high u (omega arith) k) (omega arith),
+  order-back (bits-diff-high u (omega arith) k) highest (omega arith),
+)
 
-pub within-bits : (u : ℕ) → u < 4294967296 → Within (toZ w32 u) → (u ≤ 1000000) ⊎ (4293967296 ≤ u)
+pub within-bits : (u : ℕ) → u < 4294967296 → InRange (toZ w32 u) → (u ≤ 1000000) ⊎ (4293967296 ≤ u)
 within-bits u k h = pick (decLt u 2147483648)
   where
     pick : Dec (u < 2147483648) → (u ≤ 1000000) ⊎ (4293967296 ≤ u)
     pick (yes l) = let o : u + 0 ≤ 1000000 + 0 = order (bits-diff-low u l) highest (h .1) in inl (omega arith)
-    pick (no l) = let m : 2147483648 ≤ u = omega arith in let o : 0 + 4294967296 ≤ u + 1000000 = order lowest (bits-diff-high u m k) (h .0) in inr (omega arith)
+    pick (no l) =
+        let m : 2147483648 ≤ u = omega arith in
+        let o : 0 + 4294967296 ≤ u + 1000000 = order lowest (bits-diff-high u m k) (h .0) in
+        inr (omega arith)
 
 -- a row put together from its four numbers
-pub made : (s : List ℕ) (r a b l : ℕ) (w : ℤ) → SFits w32 w → a ≡ u16At s (12 + 12 * r) → b ≡ u16At s (14 + 12 * r) → l ≡ u32At s (16 + 12 * r)
-    → w ≡ toZ w32 (u32At s (20 + 12 * r)) → _≡_ {A = Row} (record { a = a; b = b; length = l; weight = toZ w32 (ofZ w32 w) }) (rowAt s r)
+pub made : (s : List ℕ) (r a b l : ℕ) (w : ℤ) → SFits w32 w → a ≡ u16At s (12 + 12 * r) → b ≡ u16At s (14 + 12 * r)
+    → l ≡ u32At s (16 + 12 * r) → w ≡ toZ w32 (u32At s (20 + 12 * r))
+    → _≡_ {A = Row} (record { a = a; b = b; length = l; weight = toZ w32 (ofZ w32 w) }) (rowAt s r)
 made s r a b l w f p q e g = rw (toZ-ofZ w32 w f) (cc)

@@ -1,5 +1,5 @@
--- What a lifted number means: `Diff a b z` says that z is a − b, so a lifted number is one side of it. Sums correspond, order is kept both ways,
--- and a number has one difference. Nearly every law is a case by case sum of naturals.
+-- What a lifted number means: `Diff a b z` says that z is a − b, so a lifted number is one side of it. Sums correspond,
+-- order is kept both ways, and a number has one difference. Nearly every law is a case by case sum of naturals.
 use mathlib.Core.Path.{_≡_, ap}
 use Prim.Native.Nat.{ℕ, suc, _+_, _-_, _≤_, _<_}
 use native.Mathlib.Decide.{decLt}
@@ -8,7 +8,7 @@ use lib.Dec.{leb→le, le→leb}
 use lib.IntN.{ℤ, pos, negsuc, subℕ, _+ℤ_}
 use lib.Signed.{_≤ℤ_}
 use borrow.Author.Tests.{lt-ltb, le-ltb}
-use Rattle.table.specs.Signed.{Diff, up, down}
+use Rattle.table.specs.work.Diff.{Diff, up, down}
 
 -- every difference is one
 pub diff : (a b : ℕ) → Diff a b (subℕ a b)

@@ -4,7 +4,8 @@ use Prim.Native.Nat.{ℕ, suc, _+_, _≤_}
 use native.Mathlib.Omega.{arith}
 use lib.Dec.{leb→le}
 use lib.IntN.{ℤ, pos, negsuc, _+ℤ_, natAbs}
-use Rattle.table.specs.Signed.{Diff, up, down, Within}
+use Rattle.table.specs.work.Diff.{Diff, up, down}
+use Rattle.table.specs.Signed.{InRange}
 use Rattle.table.proofs.Lift.{diff}
 
 diff-near : {a b : ℕ} {z : ℤ} → Diff a b z → natAbs z ≤ a + b
@@ -17,6 +18,6 @@ sum-near (pos a) (negsuc b) = diff-near (diff a (suc b))
 sum-near (negsuc a) (pos b) = omega (arith, diff-near (diff b (suc a)))
 sum-near (negsuc a) (negsuc b) = omega arith
 
-pub within-near : (z : ℤ) → Within z → natAbs z ≤ 1000000
+pub within-near : (z : ℤ) → InRange z → natAbs z ≤ 1000000
 within-near (pos n) h = leb→le n 1000000 (h .1 .le)
 within-near (negsuc n) h = omega (arith, leb→le n 999999 (h .0 .le))

@@ -1,5 +1,5 @@
--- Each promise of this crate allows one outcome. The header's and the rows' follow along their lists of refusals; a part, a row number and a row by
--- whether the row stands there.
+-- Each promise of this crate allows one outcome. The header's and the rows' follow along their lists of refusals; a
+-- part, a row number and a row by whether the row stands there.
 use mathlib.Core.Path.{_≡_, sym, _∙_}
 use mathlib.Core.List.{List, []}
 use Prim.Native.Nat.{ℕ, _+_, _*_, _≤_, _<_}
@@ -10,27 +10,30 @@ use lib.Dec.{leb→le, le→leb}
 use lib.IntN.{ℤ, pos, negsuc}
 use Rattle.table.specs.Refuse.{Only}
 use Rattle.table.specs.Header.{Header, nodesOf}
-use Rattle.table.specs.Signed.{Within}
+use Rattle.table.specs.Signed.{InRange}
 use Rattle.table.specs.Row.{Stands, PartOf, NextOf, RowOf, rowAt}
 use Rattle.table.specs.Reader.{HeldOf, Stepped, FirstOf}
-use Rattle.table.specs.Lift.{LiftedOf, LoweredOf}
+use Rattle.table.specs.work.Lift.{LiftedOf, LoweredOf}
 use Rattle.table.specs.Examine.{Tested}
-use Rattle.table.specs.Outcome.{refusal, Opens, Examines}
+use Rattle.table.specs.Outcome.{openingRefusal, Opens, Examines}
 use Rattle.table.proofs.Refusals.{unless-only, first-bad-only}
 use Rattle.table.proofs.Accepted.{row-number-only}
 use Rattle.table.proofs.Lift.{diff-only, lift-only}
 
-pub header-only : {A : Type 0} (refusal : ℕ → ℕ → A) (s : List ℕ) {rest : A → Type 0} → Only rest → Only (Header A refusal s rest)
-header-only refusal s o = unless-only (unless-only (unless-only (unless-only (unless-only (unless-only o)))))
+pub header-only : {A : Type 0} (openingRefusal : ℕ → ℕ → A) (s : List ℕ) {rest : A → Type 0} → Only rest
+    → Only (Header A openingRefusal s rest)
+header-only openingRefusal s o = unless-only (unless-only (unless-only (unless-only (unless-only (unless-only o)))))
 
-pub tested-only : {A : Type 0} (refusal : ℕ → ℕ → A) (s : List ℕ) {rest : A → Type 0} → Only rest → Only (Tested A refusal s rest)
-tested-only refusal s o = header-only refusal s (first-bad-only (λ i. row-number-only (nodesOf s) (rowAt s i)) o)
+pub tested-only : {A : Type 0} (openingRefusal : ℕ → ℕ → A) (s : List ℕ) {rest : A → Type 0} → Only rest
+    → Only (Tested A openingRefusal s rest)
+tested-only openingRefusal s o =
+    header-only openingRefusal s (first-bad-only (λ i. row-number-only (nodesOf s) (rowAt s i)) o)
 
 pub open-only : (s : List ℕ) → Only (Opens s)
-open-only s = header-only refusal s (λ x y p q. p ∙ sym q)
+open-only s = header-only openingRefusal s (λ x y p q. p ∙ sym q)
 
 pub examine-only : (s : List ℕ) → Only (Examines s)
-examine-only s = tested-only refusal s (λ x y p q. p ∙ sym q)
+examine-only s = tested-only openingRefusal s (λ x y p q. p ∙ sym q)
 
 -- a row stands, or it does not
 by-row : {C : Type 0} (s : List ℕ) (r : ℕ) → (Stands s r → C) → ((Stands s r → ⊥) → C) → C
@@ -40,9 +43,11 @@ by-row {C} s r f g = pick (decLe (24 + 12 * r) (length s))
     pick (yes h) = f h
     pick (no h) = g h
 
-pub part-only : (s : List ℕ) (home : ℕ × ℕ) (r : ℕ) (q q′ : List ℕ) (place place′ : ℕ × ℕ) → PartOf s home r q place → PartOf s home r q′ place′ → (q ≡ q′) × (place ≡ place′)
+pub part-only : (s : List ℕ) (home : ℕ × ℕ) (r : ℕ) (q q′ : List ℕ) (place place′ : ℕ × ℕ) → PartOf s home r q place
+    → PartOf s home r q′ place′ → (q ≡ q′) × (place ≡ place′)
 part-only s home r q q′ place place′ p p′ =
-    by-row s r (λ h. (p .bytes h ∙ sym (p′ .bytes h), p .own h ∙ sym (p′ .own h))) (λ h. (p .none h ∙ sym (p′ .none h), p .none-at h ∙ sym (p′ .none-at h)))
+    by-row s r (λ h. (p .bytes h ∙ sym (p′ .bytes h), p .own h ∙ sym (p′ .own h)))
+    (λ h. (p .none h ∙ sym (p′ .none h), p .none-at h ∙ sym (p′ .none-at h)))
 
 pub next-only : (s : List ℕ) (r : ℕ) → Only (NextOf s r)
 next-only s r x y p q = by-row s r (λ h. p .moves h ∙ sym (q .moves h)) (λ h. p .stays h ∙ sym (q .stays h))
@@ -51,22 +56,23 @@ pub row-only : (s : List ℕ) (r : ℕ) → Only (RowOf s r)
 row-only s r x y p q = by-row s r (λ h. p .there h ∙ sym (q .there h)) (λ h. p .none h ∙ sym (q .none h))
 
 -- so does a weight's range
-within? : (z : ℤ) → Dec (Within z)
+within? : (z : ℤ) → Dec (InRange z)
 within? (pos n) = pick (decLe n 1000000)
   where
-    pick : Dec (n ≤ 1000000) → Dec (Within (pos n))
+    pick : Dec (n ≤ 1000000) → Dec (InRange (pos n))
     pick (yes h) = yes (record { le = tt }, record { le = le→leb n 1000000 h })
     pick (no h) = no (λ w. h (leb→le n 1000000 (w .1 .le)))
 within? (negsuc n) = pick (decLe n 999999)
   where
-    pick : Dec (n ≤ 999999) → Dec (Within (negsuc n))
+    pick : Dec (n ≤ 999999) → Dec (InRange (negsuc n))
     pick (yes h) = yes (record { le = le→leb n 999999 h }, record { le = tt })
     pick (no h) = no (λ w. h (leb→le n 999999 (w .0 .le)))
 
 pub lifted-only : (s : List ℕ) (r : ℕ) → Only (LiftedOf s r)
-lifted-only s r x y p q = by-row s r (λ h. pick h (within? (rowAt s r .weight))) (λ h. p .none (λ k w. h k) ∙ sym (q .none (λ k w. h k)))
+lifted-only s r x y p q =
+    by-row s r (λ h. pick h (within? (rowAt s r .weight))) (λ h. p .none (λ k w. h k) ∙ sym (q .none (λ k w. h k)))
   where
-    pick : Stands s r → Dec (Within (rowAt s r .weight)) → x ≡ y
+    pick : Stands s r → Dec (InRange (rowAt s r .weight)) → x ≡ y
     pick h (yes w) = lift-only (p .lifts h w) (q .lifts h w)
     pick h (no n) = p .none (λ k w. n w) ∙ sym (q .none (λ k w. n w))
 
@@ -78,13 +84,22 @@ lowered-only x y z p q = pick (decLt x 17179869184)
     pick (no h) = p .none (omega arith) ∙ sym (q .none (omega arith))
 
 -- the reader's
-pub held-only : (s : List ℕ) (home : ℕ × ℕ) (q q′ : List ℕ) (place place′ : ℕ × ℕ) → HeldOf s home q place → HeldOf s home q′ place′ → (q ≡ q′) × (place ≡ place′)
-held-only s home q q′ place place′ p p′ = (header-only (λ _ _. []) s (λ x y a b. a ∙ sym b) q q′ (p .bytes) (p′ .bytes), p .own ∙ sym (p′ .own))
+pub held-only : (s : List ℕ) (home : ℕ × ℕ) (q q′ : List ℕ) (place place′ : ℕ × ℕ) → HeldOf s home q place
+    → HeldOf s home q′ place′ → (q ≡ q′) × (place ≡ place′)
+held-only s home q q′ place place′ p p′ = (
+  header-only (λ _ _. []) s (λ x y a b. a ∙ sym b) q q′ (p .bytes) (p′ .bytes),
+  p .own ∙ sym (p′ .own),
+)
 
-pub step-only : (s : List ℕ) (home : ℕ × ℕ) (r : ℕ) (q q′ : List ℕ) (place place′ : ℕ × ℕ) (n n′ : ℕ) → Stepped s home r q place n → Stepped s home r q′ place′ n′ → ((q ≡ q′) × (place ≡ place′)) × (n ≡ n′)
-step-only s home r q q′ place place′ n n′ p p′ = (part-only s home r q q′ place place′ (p .part) (p′ .part), next-only s r n n′ (p .moved) (p′ .moved))
+pub step-only : (s : List ℕ) (home : ℕ × ℕ) (r : ℕ) (q q′ : List ℕ) (place place′ : ℕ × ℕ) (n n′ : ℕ)
+    → Stepped s home r q place n → Stepped s home r q′ place′ n′ → ((q ≡ q′) × (place ≡ place′)) × (n ≡ n′)
+step-only s home r q q′ place place′ n n′ p p′ = (
+  part-only s home r q q′ place place′ (p .part) (p′ .part),
+  next-only s r n n′ (p .moved) (p′ .moved),
+)
 
-pub first-only : (s : List ℕ) (home : ℕ × ℕ) (q q′ : List ℕ) (place place′ : ℕ × ℕ) → FirstOf s home q place → FirstOf s home q′ place′ → (q ≡ q′) × (place ≡ place′)
+pub first-only : (s : List ℕ) (home : ℕ × ℕ) (q q′ : List ℕ) (place place′ : ℕ × ℕ) → FirstOf s home q place
+    → FirstOf s home q′ place′ → (q ≡ q′) × (place ≡ place′)
 first-only s home q q′ place place′ p p′ =
     let h = held-only s home (p .kept) (p′ .kept) (p .kept-at) (p′ .kept-at) (p .of) (p′ .of) in
     part-only (p′ .kept) (p′ .kept-at) 0 q q′ place place′ (rw (h .0, h .1) at (p .part)) (p′ .part)

@@ -58,11 +58,13 @@ module _ {A : Type 0} {refusal : ℕ → ℕ → A} {m : ℕ} {Number : ℕ → 
   past-rows n (fine all p) = (all, p)
 
   -- and good rows refuse nothing
-  pub settled-rows : {x : A} → ((i : ℕ) → Only (Number i)) → ((i : ℕ) → i < m → Number i 0) → FirstBad A refusal m Number rest x → rest x
+  pub settled-rows : {x : A} → ((i : ℕ) → Only (Number i)) → ((i : ℕ) → i < m → Number i 0)
+      → FirstBad A refusal m Number rest x → rest x
   settled-rows one all (bad r k l before is not) = absurd (not (one r k 0 is (all r l)))
   settled-rows one all (fine o p) = p
 
-pub first-bad-map : {A B : Type 0} (f : A → B) {refusal : ℕ → ℕ → A} {m : ℕ} {Number : ℕ → ℕ → Type 0} {rest : A → Type 0} {rest′ : B → Type 0} {x : A}
-    → (((i : ℕ) → i < m → Number i 0) → rest x → rest′ (f x)) → FirstBad A refusal m Number rest x → FirstBad B (λ k r. f (refusal k r)) m Number rest′ (f x)
+pub first-bad-map : {A B : Type 0} (f : A → B) {refusal : ℕ → ℕ → A} {m : ℕ} {Number : ℕ → ℕ → Type 0}
+    {rest : A → Type 0} {rest′ : B → Type 0} {x : A} → (((i : ℕ) → i < m → Number i 0) → rest x → rest′ (f x))
+    → FirstBad A refusal m Number rest x → FirstBad B (λ k r. f (refusal k r)) m Number rest′ (f x)
 first-bad-map f g (bad r k l before is not) = bad r k l before is not
 first-bad-map f g (fine all p) = fine all (g all p)

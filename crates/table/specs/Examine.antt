@@ -5,7 +5,7 @@ use Prim.Native.Nat.{ℕ, _-_, _≤_, _<_}
 use Rattle.table.specs.Refuse.{Unless, FirstBad}
 use Rattle.table.specs.Header.{Header, nodesOf}
 use Rattle.table.specs.Row.{rowAt}
-use Rattle.table.specs.Signed.{Within}
+use Rattle.table.specs.Signed.{InRange}
 use Rattle.table.specs.declared.Row.{Row}
 
 -- k is the first of 7 to 10 that a row of a net of n nodes meets, 0 where it meets none
@@ -14,7 +14,7 @@ RowNumber n q =
     Unless ℕ 7 ((q .a < n) × (q .b < n))
     (Unless ℕ 8 (q .a ≡ q .b → ⊥)
     (Unless ℕ 9 (q .length ≤ 1000000)
-    (Unless ℕ 10 (Within (q .weight))
+    (Unless ℕ 10 (InRange (q .weight))
     (λ k. k ≡ 0))))
 
 -- the n − 1 rows in order, the first bad row named

@@ -1,4 +1,5 @@
--- The header, 12 bytes: the letters RTN, version, node count n, a reserved byte, wire bound B; and its refusals 1 to 6, in order.
+-- The header, 12 bytes: the letters RTN, version, node count n, a reserved byte, wire bound B; and its refusals 1 to 6,
+-- in order.
 use mathlib.Core.Path.{_≡_}
 use mathlib.Core.List.{List}
 use Prim.Native.Nat.{ℕ, _*_, _≤_}

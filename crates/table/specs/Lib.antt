@@ -1,10 +1,11 @@
--- What a reader must believe of the branch table, version 1.
-pub mod Refuse
+-- What a reader must believe of this crate; work holds what its functions promise each other, no part of an operation's
+-- promise.
 pub mod Bytes
-pub mod Signed
-pub mod Header
-pub mod Row
-pub mod Lift
 pub mod Examine
+pub mod Header
 pub mod Outcome
 pub mod Reader
+pub mod Refuse
+pub mod Row
+pub mod Signed
+pub mod work

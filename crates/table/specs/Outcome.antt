@@ -7,28 +7,28 @@ use Rattle.table.specs.Examine.{Tested}
 use Rattle.table.specs.declared.Opening.{Opening}
 use Rattle.table.specs.declared.Opening.the-variants.{Opened, Refused}
 
-pub record Outcome : Type 0 where
+pub record OpeningOutcome : Type 0 where
   pub number : ℕ
   pub row : ℕ
   pub nodes : ℕ
   pub bound : ℕ
 
 -- a refusal: number and row, zeros elsewhere
-abbrev pub refusal : ℕ → ℕ → Outcome
-refusal k r = record { number = k; row = r; nodes = 0; bound = 0 }
+abbrev pub openingRefusal : ℕ → ℕ → OpeningOutcome
+openingRefusal k r = record { number = k; row = r; nodes = 0; bound = 0 }
 
 -- where nothing is refused, number and row are 0
-abbrev pub found : ℕ → ℕ → Outcome
-found n b = record { number = 0; row = 0; nodes = n; bound = b }
+abbrev pub tableOpened : ℕ → ℕ → OpeningOutcome
+tableOpened n b = record { number = 0; row = 0; nodes = n; bound = b }
 
-abbrev pub outcome : Opening → Outcome
-outcome (Opened n b) = found n b
-outcome (Refused w) = refusal (w .number) (w .row)
+abbrev pub openingOutcome : Opening → OpeningOutcome
+openingOutcome (Opened n b) = tableOpened n b
+openingOutcome (Refused w) = openingRefusal (w .number) (w .row)
 
 -- opening: 1 to 6, then n and B
-abbrev pub Opens : List ℕ → Outcome → Type 0
-Opens s = Header Outcome refusal s (λ x. x ≡ found (nodesOf s) (boundOf s))
+abbrev pub Opens : List ℕ → OpeningOutcome → Type 0
+Opens s = Header OpeningOutcome openingRefusal s (λ x. x ≡ tableOpened (nodesOf s) (boundOf s))
 
 -- examining: 1 to 10, then n and B
-abbrev pub Examines : List ℕ → Outcome → Type 0
-Examines s = Tested Outcome refusal s (λ x. x ≡ found (nodesOf s) (boundOf s))
+abbrev pub Examines : List ℕ → OpeningOutcome → Type 0
+Examines s = Tested OpeningOutcome openingRefusal s (λ x. x ≡ tableOpened (nodesOf s) (boundOf s))

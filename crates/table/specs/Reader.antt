@@ -5,7 +5,8 @@ use Prim.Native.Nat.{ℕ}
 use Rattle.table.specs.Header.{Header}
 use Rattle.table.specs.Row.{PartOf, NextOf}
 
--- what a reader holds of the table s, which lies at `home`: all of it, or where the header is refused an empty part; and where that lies
+-- what a reader holds of the table s, which lies at `home`: all of it, or where the header is refused an empty part;
+-- and where that lies
 pub record HeldOf (s : List ℕ) (home : ℕ × ℕ) (q : List ℕ) (place : ℕ × ℕ) : Type 0 where
   pub own : place ≡ home
   pub bytes : Header (List ℕ) (λ _ _. []) s (λ x. x ≡ s) q

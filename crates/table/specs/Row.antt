@@ -1,6 +1,5 @@
 -- Rows, numbered from 0: where the 12 bytes of a row stand, what they say, and what a reader hands back there.
 use mathlib.Core.Path.{_≡_}
-use mathlib.Core.Bool.{Bool, true, false}
 use mathlib.Core.List.{List, []}
 use Prim.Native.Nat.{ℕ, _+_, _*_, _≤_}
 use lib.ListN.{length, take, drop}
@@ -14,13 +13,8 @@ use Rattle.table.specs.declared.Row.{Row}
 abbrev pub Stands : List ℕ → ℕ → Type 0
 Stands s r = 24 + 12 * r ≤ length s
 
--- a test says whether they do
-pub record Standing (s : List ℕ) (r : ℕ) (q : Bool) : Type 0 where
-  pub there : q ≡ true → Stands s r
-  pub none : q ≡ false → Stands s r → ⊥
-
--- the part handed back at row r, its bytes q and where they lie, the table lying at `home`: a place is a block of memory and a place in it.
--- So the part is the caller's own 12 bytes, and no copy
+-- the part handed back at row r, its bytes q and where they lie, the table lying at `home`: a place is a block of
+-- memory and a place in it. So the part is the caller's own 12 bytes, and no copy
 pub record PartOf (s : List ℕ) (home : ℕ × ℕ) (r : ℕ) (q : List ℕ) (place : ℕ × ℕ) : Type 0 where
   pub bytes : Stands s r → q ≡ take 12 (drop (12 + 12 * r) s)
   pub own : Stands s r → place ≡ (home .0, (12 + 12 * r) + home .1)
@@ -34,7 +28,13 @@ pub record NextOf (s : List ℕ) (r q : ℕ) : Type 0 where
 
 -- a row's four numbers: node, node, length, and the weight in two's complement
 abbrev pub rowAt : List ℕ → ℕ → Row
-rowAt s r = record { a = u16At s (12 + 12 * r); b = u16At s (14 + 12 * r); length = u32At s (16 + 12 * r); weight = toZ w32 (u32At s (20 + 12 * r)) }
+rowAt s r =
+    record {
+      a = u16At s (12 + 12 * r);
+      b = u16At s (14 + 12 * r);
+      length = u32At s (16 + 12 * r);
+      weight = toZ w32 (u32At s (20 + 12 * r));
+    }
 
 abbrev pub noRow : Row
 noRow = record { a = 0; b = 0; length = 0; weight = pos 0 }

@@ -8,10 +8,18 @@ ghost use mir.Syntax.{w32};
 ghost use mir.Val.{toZ};
 ghost use denote.Ref.{ptr};
 ghost use Rattle.table.specs.Bytes.{u16At, u32At};
-ghost use Rattle.table.specs.Outcome.{Outcome, outcome, refusal, found, Opens, Examines};
-ghost use Rattle.table.specs.Row.{Stands, Standing, PartOf, NextOf, RowOf, rowAt};
+ghost use Rattle.table.specs.Outcome.{
+  OpeningOutcome,
+  openingOutcome,
+  openingRefusal,
+  tableOpened,
+  Opens,
+  Examines,
+};
+ghost use Rattle.table.specs.Row.{Stands, PartOf, NextOf, RowOf, rowAt};
+ghost use Rattle.table.specs.work.Standing.{Standing};
 ghost use Rattle.table.specs.Examine.{RowNumber, Rows};
-ghost use Rattle.table.specs.Lift.{LiftedOf, LoweredOf};
+ghost use Rattle.table.specs.work.Lift.{LiftedOf, LoweredOf};
 ghost use Rattle.table.specs.Reader.{HeldOf, Stepped, FirstOf};
 
 // What is refused, by the paper's number, and the row it names: 0 where none is named.
@@ -63,7 +71,7 @@ fn u32_at(s: &[u8], i: usize) -> u32
 
 // Tests 1 to 6 alone, in order.
 pub fn open_table(s: &[u8]) -> Opening
-    ensures { λ r. ⌜ Opens (now (s .entry)) (outcome r) ⌝ }
+    ensures { λ r. ⌜ Opens (now (s .entry)) (openingOutcome r) ⌝ }
 {
     if s.len() < 12 {
         return Opening::Refused(Refusal { number: 1, row: 0 });
@@ -166,6 +174,16 @@ pub fn row_at(s: &[u8], row: usize) -> Row
     }
 }
 
+// What is added to a row's weight, and to a sum of weights, so that both are carried as natural numbers; and what every
+// lifted sum is below.
+pub const ROW_LIFT: u32 = 1000000;
+
+pub const SUM_LIFT: u64 = 8589934592;
+
+pub const SUM_END: u64 = 2 * SUM_LIFT;
+
+const BELOW_SUM_LIFT: u64 = SUM_LIFT - 1;
+
 // A row's weight lifted by 1,000,000, read straight from its bytes; 0 where there is no such row or its weight is out
 // of range.
 pub fn lifted_at(s: &[u8], row: usize) -> u32
@@ -174,7 +192,7 @@ pub fn lifted_at(s: &[u8], row: usize) -> u32
     if stands(s, row) {
         let u = u32_at(s, 20 + 12 * row);
         if u <= 1000000 {
-            return u + 1000000;
+            return u + ROW_LIFT;
         }
         if 4293967296 <= u {
             return u - 4293967296;
@@ -187,14 +205,14 @@ pub fn lifted_at(s: &[u8], row: usize) -> u32
 pub fn lowered(x: u64) -> i64
     ensures { λ r. ⌜ LoweredOf x r ⌝ }
 {
-    if 17179869184 <= x {
+    if SUM_END <= x {
         return 0;
     }
-    if x < 8589934592 {
-        let m = (8589934591 - x) as i64;
+    if x < SUM_LIFT {
+        let m = (BELOW_SUM_LIFT - x) as i64;
         return -1 - m;
     }
-    (x - 8589934592) as i64
+    (x - SUM_LIFT) as i64
 }
 
 // The first of 7 to 10 that a row meets, or 0. The weight is tested on its bits: nothing is negated.
@@ -230,7 +248,8 @@ fn row_number(s: &[u8], r: usize, nodes: u16) -> u8
 // Every row in order, after a good header.
 fn rows(s: &[u8], nodes: u16, bound: u32) -> Opening
     requires { ⌜ (1 ≤ nodes) × (12 * nodes ≤ length (now s)) ⌝ }
-    ensures { λ o. ⌜ Rows Outcome refusal (now (s .entry)) nodes (λ x. x ≡ found nodes bound) (outcome o) ⌝ }
+    ensures { λ o. ⌜ Rows OpeningOutcome openingRefusal (now (s .entry)) nodes (λ x. x ≡ tableOpened nodes bound)
+        (openingOutcome o) ⌝ }
 {
     let count = nodes as usize;
     let mut r: usize = 0;
@@ -246,7 +265,7 @@ fn rows(s: &[u8], nodes: u16, bound: u32) -> Opening
 
 // Tests 1 to 10: the header, then row by row.
 pub fn examine(s: &[u8]) -> Opening
-    ensures { λ o. ⌜ Examines (now (s .entry)) (outcome o) ⌝ }
+    ensures { λ o. ⌜ Examines (now (s .entry)) (openingOutcome o) ⌝ }
 {
     let o = open_table(s);
     match o {

@@ -1,5 +1,5 @@
--- Texts put into lent bytes: by stores one by one, one after the other; what then stands there; and that a text at a place
--- leaves one list of bytes and one place after it.
+-- Texts put into lent bytes: by stores one by one, one after the other; what then stands there; and that a text at a
+-- place leaves one list of bytes and one place after it.
 use mathlib.Core.Path.{_≡_, refl, sym, ap, _∙_}
 use mathlib.Core.List.{List, [], _++_}
 use Prim.Native.Nat.{ℕ, _+_, _≤_}
@@ -7,7 +7,7 @@ use native.Mathlib.Omega.{arith}
 use lib.ListN.{length, take, drop, length-append}
 use lib.Seq.{sets, length-sets, sets-eq, take-at}
 use Rattle.arrays.proofs.Stores.{sets-append}
-use Rattle.text.specs.Put.{Put}
+use Rattle.text.specs.work.Put.{Put}
 
 -- by stores one by one, and back
 pub put-sets : {old t new : List ℕ} {at next : ℕ} → next ≡ at + length t → next ≤ length old → new ≡ sets old at t

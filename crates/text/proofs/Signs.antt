@@ -14,7 +14,7 @@ use mir.Syntax.{w64}
 use mir.Val.{SFits, toZ, ofZ}
 use mir.ValLaws.{toZ-ofZ}
 use Rattle.text.specs.Decimal.{decimal, signed}
-use Rattle.text.specs.Put.{Put}
+use Rattle.text.specs.work.Put.{Put}
 use Rattle.text.proofs.Decimals.{decimal-few, decimal-short}
 use Rattle.text.proofs.Puts.{put-then}
 

@@ -9,7 +9,7 @@ use lib.ListN.{length, getD, set, take, length-set}
 use lib.Seq.{sets, set-comm, take-suc, take-all, length-take-le}
 use Rattle.arrays.proofs.Stores.{sets-append}
 use Rattle.text.specs.Decimal.{decimal}
-use Rattle.text.specs.Put.{Put}
+use Rattle.text.specs.work.Put.{Put}
 use Rattle.text.proofs.Decimals.{Size, one, longer, digits, digits-length, size-text, length-size}
 use Rattle.text.proofs.Puts.{put-sets}
 

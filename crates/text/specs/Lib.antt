@@ -1,4 +1,5 @@
--- What the contracts of this crate cite.
+-- What a reader must believe of this crate; work holds what its functions promise each other, no part of an operation's
+-- promise.
 pub mod Decimal
 pub mod Word
-pub mod Put
+pub mod work

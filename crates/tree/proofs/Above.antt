@@ -4,7 +4,7 @@ use mathlib.Core.Path.{_≡_, refl, sym, _∙_}
 use mathlib.Core.Logic.{_⊎_, inl, inr, _≢_}
 use native.Mathlib.Omega.{arith}
 use native.Mathlib.Decide.{ℕ-discrete}
-use Rattle.tree.specs.Rooted.{Above, self, up}
+use Rattle.tree.specs.work.Rooted.{Above, self, up}
 
 -- a parent is a node, and its place is earlier
 pub record Tree (n : ℕ) (par place : ℕ → ℕ) : Type 0 where

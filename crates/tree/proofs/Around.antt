@@ -5,12 +5,12 @@ use mathlib.Core.Path.{_≡_, refl, sym, ap, _∙_}
 use mathlib.Core.List.{List, [], _∷_}
 use native.Mathlib.Omega.{arith}
 use lib.ListN.{length}
-use Rattle.arrays.specs.Filled.{at}
+use Rattle.arrays.specs.At.{at}
 use Rattle.arrays.specs.Members.{In, past, Distinct}
 use Rattle.arrays.specs.Members as members
 use Rattle.tree.specs.Graph.{First, Walk, stop, go, Joined, RingAt}
 use Rattle.tree.specs.Ring.{RingRows, closed}
-use Rattle.tree.specs.Walked.{Reached, WalkedFrom}
+use Rattle.tree.specs.work.Walked.{Reached, WalkedFrom}
 use Rattle.arrays.proofs.Members.{not-nil, in-one}
 use Rattle.tree.proofs.Chains.{half-ends}
 

@@ -18,10 +18,21 @@ use Rattle.table.proofs.Accepted.{GoodTable, accepted, tested-past, tested-map,
 use Rattle.table.proofs.Accepted as table
 use Rattle.table.proofs.Only.{tested-only}
 use Rattle.tree.specs.Graph.{Forest}
-use Rattle.tree.specs.Net.{firstEnd, secondEnd, lengthOf, weightOf, Whole, Net}
+use Rattle.tree.specs.Net.{firstEnd, secondEnd, lengthOf, weightOf, Whole}
+use Rattle.tree.specs.work.Net.{Net}
 use Rattle.tree.specs.Ring.{RingRows}
-use Rattle.tree.specs.Accept.{Rings, Begins, Outcome, refusal, found, outcome, Accepts}
-use Rattle.tree.specs.Work.{Readable, Fitting, Closing, FirstRing, Reaches}
+use Rattle.tree.specs.Accept.{
+  Rings,
+  Begins,
+  AcceptanceOutcome,
+  acceptanceRefusal,
+  netAccepted,
+  acceptanceOutcome,
+  Accepts,
+}
+use Rattle.tree.specs.work.Rows.{Readable, Fitting, Closing}
+use Rattle.tree.specs.work.Union.{FirstRing}
+use Rattle.tree.specs.work.Queue.{Reaches}
 use Rattle.tree.specs.declared.Refusal.{Refusal}
 use Rattle.tree.specs.declared.Acceptance.{Acceptance}
 use Rattle.tree.specs.declared.Acceptance.the-variants as variants
@@ -29,11 +40,11 @@ use Rattle.tree.proofs.Grown.{reached-all, all-joined}
 use Rattle.tree.proofs.RingRows.{row-open, rows-open, open-rows, rings-only, rings-settled}
 
 -- a refusal finds nothing
-nothing-found : {n b k r g : ℕ} → 1 ≤ n → refusal k r g ≡ found n b → ⊥
-nothing-found h e = omega (arith, ap (λ (o : Outcome). o .nodes) e)
+nothing-found : {n b k r g : ℕ} → 1 ≤ n → acceptanceRefusal k r g ≡ netAccepted n b → ⊥
+nothing-found h e = omega (arith, ap (λ (o : AcceptanceOutcome). o .nodes) e)
 
 -- The code's side
-pub fitting : (s : List ℕ) (n b : ℕ) → Examines s (T.outcome (Opened n b)) → Fitting s n
+pub fitting : (s : List ℕ) (n b : ℕ) → Examines s (T.openingOutcome (Opened n b)) → Fitting s n
 unfolding firstEnd secondEnd
 fitting s n b p =
     let a = accepted s n b p in
@@ -72,16 +83,17 @@ good-rows : (s : List ℕ) (n r : ℕ) → FirstRing (firstEnd s) (secondEnd s) 
     → RingRows (firstEnd s) (secondEnd s) i 0
 good-rows s n r f l i h = open-rows (firstEnd s) (secondEnd s) (f .forest) i (omega arith)
 
-module _ (s : List ℕ) (n : ℕ) {rest : Outcome → Type 0} where
+module _ (s : List ℕ) (n : ℕ) {rest : AcceptanceOutcome → Type 0} where
   pub rings-bad : (r g : ℕ) → FirstRing (firstEnd s) (secondEnd s) (n - 1) r → r < n - 1
-      → RingRows (firstEnd s) (secondEnd s) r g → Rings Outcome refusal s n rest (refusal 11 r g)
+      → RingRows (firstEnd s) (secondEnd s) r g
+      → Rings AcceptanceOutcome acceptanceRefusal s n rest (acceptanceRefusal 11 r g)
   rings-bad r g f l p =
       bad r g l (open-rows (firstEnd s) (secondEnd s) (f .forest)) p
       (λ e. row-open (firstEnd s) (secondEnd s) (rw e at p) (f .closes l))
 
   module _ (r : ℕ) (f : FirstRing (firstEnd s) (secondEnd s) (n - 1) r) (l : n - 1 ≤ r) (g : Fitting s n) (m : ℕ)
       (w : Reaches (firstEnd s) (secondEnd s) (n - 1) m) where
-    pub rings-apart : m < n → Rings Outcome refusal s n rest (refusal 12 0 0)
+    pub rings-apart : m < n → Rings AcceptanceOutcome acceptanceRefusal s n rest (acceptanceRefusal 12 0 0)
     rings-apart h =
         fine (good-rows s n r f l)
         (refused
@@ -91,7 +103,7 @@ module _ (s : List ℕ) (n : ℕ) {rest : Outcome → Type 0} where
               (g .some) (g .fit) (w .walked) all,
         )))
 
-    pub rings-whole : n ≤ m → {x : Outcome} → rest x → Rings Outcome refusal s n rest x
+    pub rings-whole : n ≤ m → {x : AcceptanceOutcome} → rest x → Rings AcceptanceOutcome acceptanceRefusal s n rest x
     rings-whole h p =
         fine (good-rows s n r f l)
         (passed
@@ -100,17 +112,17 @@ module _ (s : List ℕ) (n : ℕ) {rest : Outcome → Type 0} where
         p)
 
 -- a refusal of 1 to 10 stays one, and an examined table goes on to 11 and 12
-pub refused-stays : (s : List ℕ) (w : why.Refusal) → Examines s (T.refusal (w .number) (w .row))
-    → Accepts s (refusal (w .number) (w .row) 0)
+pub refused-stays : (s : List ℕ) (w : why.Refusal) → Examines s (T.openingRefusal (w .number) (w .row))
+    → Accepts s (acceptanceRefusal (w .number) (w .row) 0)
 refused-stays s w p =
-    tested-map (λ (o : T.Outcome). refusal (o .number) (o .row) 0) T.refusal s
+    tested-map (λ (o : T.OpeningOutcome). acceptanceRefusal (o .number) (o .row) 0) T.openingRefusal s
     (λ g e. absurd (table.nothing-found (accepted s (nodesOf s) (boundOf s) g .headed .some) e)) p
 
-pub examined-goes : (s : List ℕ) (n b : ℕ) (o : Outcome) → Examines s (T.outcome (Opened n b))
-    → Rings Outcome refusal s n (λ x. x ≡ found n b) o → Accepts s o
+pub examined-goes : (s : List ℕ) (n b : ℕ) (o : AcceptanceOutcome) → Examines s (T.openingOutcome (Opened n b))
+    → Rings AcceptanceOutcome acceptanceRefusal s n (λ x. x ≡ netAccepted n b) o → Accepts s o
 examined-goes s n b o p q =
     let a = accepted s n b p in
-    table.passed-on (λ k r. refusal k r 0) s n b p (rw (a .nodes, a .bound) at q)
+    table.passed-on (λ k r. acceptanceRefusal k r 0) s n b p (rw (a .nodes, a .bound) at q)
 
 -- A table of which 1 to 12 refuse nothing: it is a net
 pub record Sound (s : List ℕ) : Type 0 where
@@ -174,34 +186,37 @@ begins-map f refuse s g p =
     p
 
 -- What an accepted table has
-accept-sound : (s : List ℕ) (n b : ℕ) → Accepts s (found n b) → Sound s × (found n b ≡ found (nodesOf s) (boundOf s))
-accept-sound s n b p = begins-sound refusal s (λ k r g. not-refused (λ (o : Outcome). o .number) refl) p
+accept-sound : (s : List ℕ) (n b : ℕ) → Accepts s (netAccepted n b)
+    → Sound s × (netAccepted n b ≡ netAccepted (nodesOf s) (boundOf s))
+accept-sound s n b p =
+    begins-sound acceptanceRefusal s (λ k r g. not-refused (λ (o : AcceptanceOutcome). o .number) refl) p
 
 pub record Admitted (s : List ℕ) (n b : ℕ) : Type 0 where
   pub net : Net s n
   pub nodes : n ≡ nodesOf s
   pub bound : b ≡ boundOf s
 
-pub admitted : (s : List ℕ) (n b : ℕ) → Accepts s (outcome (variants.Accepted n b)) → Admitted s n b
+pub admitted : (s : List ℕ) (n b : ℕ) → Accepts s (acceptanceOutcome (variants.Accepted n b)) → Admitted s n b
 admitted s n b p =
     let t = accept-sound s n b p in
-    let e : n ≡ nodesOf s = ap (λ (o : Outcome). o .nodes) (t .1) in
-    record { net = rw e (sound-net (t .0)); nodes = e; bound = ap (λ (o : Outcome). o .bound) (t .1) }
+    let e : n ≡ nodesOf s = ap (λ (o : AcceptanceOutcome). o .nodes) (t .1) in
+    record { net = rw e (sound-net (t .0)); nodes = e; bound = ap (λ (o : AcceptanceOutcome). o .bound) (t .1) }
 
 -- How an operation that begins with `accept` hands a refusal on, and goes on where there is none
 module _ {A : Type 0} (refuse : ℕ → ℕ → ℕ → A) {rest : A → Type 0} (s : List ℕ) where
-  pub refused-on : (w : Refusal) → Accepts s (outcome (variants.Refused w))
+  pub refused-on : (w : Refusal) → Accepts s (acceptanceOutcome (variants.Refused w))
       → Begins A refuse s rest (refuse (w .number) (w .row) (w .ring))
   refused-on w p =
-      begins-map (λ (o : Outcome). refuse (o .number) (o .row) (o .ring)) refusal s
+      begins-map (λ (o : AcceptanceOutcome). refuse (o .number) (o .row) (o .ring)) acceptanceRefusal s
       (λ n e. absurd (nothing-found (n .some) e)) p
 
-  pub passed-on : (n b : ℕ) {x : A} → Accepts s (outcome (variants.Accepted n b)) → rest x → Begins A refuse s rest x
+  pub passed-on : (n b : ℕ) {x : A} → Accepts s (acceptanceOutcome (variants.Accepted n b)) → rest x
+      → Begins A refuse s rest x
   passed-on n b p r = sound-on refuse s (accept-sound s n b p .0) r
 
 -- an accepted table's outcome is as the rest says
 pub begins-rest : {A : Type 0} (refuse : ℕ → ℕ → ℕ → A) (s : List ℕ) {rest : A → Type 0} {x : A}
-    → Accepts s (found (nodesOf s) (boundOf s)) → Begins A refuse s rest x → rest x
+    → Accepts s (netAccepted (nodesOf s) (boundOf s)) → Begins A refuse s rest x → rest x
 begins-rest refuse s p = sound-rest refuse s (accept-sound s (nodesOf s) (boundOf s) p .0)
 
 -- Two promises that begin alike give equal outcomes, where their rests do of an accepted net
@@ -233,19 +248,21 @@ begins-net-only refuse s o = begins-alike refuse s o
 
 -- and what acceptance refuses, every operation that begins with it refuses alike
 pub refused-alike : {A : Type 0} (refuse : ℕ → ℕ → ℕ → A) (s : List ℕ) {rest : A → Type 0} {x : A} (k r g : ℕ)
-    → Accepts s (refusal k r g) → Begins A refuse s rest x → x ≡ refuse k r g
+    → Accepts s (acceptanceRefusal k r g) → Begins A refuse s rest x → x ≡ refuse k r g
 refused-alike refuse s {x = x} k r g p q =
     begins-alike refuse s {rest′ = λ _. ⊥} (λ _ a b h none. absurd none) x (refuse k r g) q
     (refused-on refuse s (record { number = k; row = r; ring = g }) p)
 
 pub accept-only : (s : List ℕ) → Only (Accepts s)
-accept-only s = begins-only refusal s (λ x y p q. p ∙ sym q)
+accept-only s = begins-only acceptanceRefusal s (λ x y p q. p ∙ sym q)
 
 -- one answer: no refusal, whatever its number, has the outcome of an accepted net, which has a node
-pub accept-answer-only : (s : List ℕ) (x y : Acceptance) → Accepts s (outcome x) → Accepts s (outcome y) → x ≡ y
+pub accept-answer-only : (s : List ℕ) (x y : Acceptance) → Accepts s (acceptanceOutcome x)
+    → Accepts s (acceptanceOutcome y) → x ≡ y
 accept-answer-only s x y p q = same x y p q (accept-only s _ _ p q)
   where
-    same : (x y : Acceptance) → Accepts s (outcome x) → Accepts s (outcome y) → outcome x ≡ outcome y → x ≡ y
+    same : (x y : Acceptance) → Accepts s (acceptanceOutcome x) → Accepts s (acceptanceOutcome y)
+        → acceptanceOutcome x ≡ acceptanceOutcome y → x ≡ y
     same (variants.Accepted n b) (variants.Accepted m c) p q e = λ i. variants.Accepted (e i .nodes) (e i .bound)
     same (variants.Accepted n b) (variants.Refused w) p q e =
         absurd (nothing-found (admitted s n b p .net .some) (sym e))

@@ -1,4 +1,5 @@
--- The bridge: where other rows join the ends of a row, some row closes a ring with the rows before it. By the cut of a walk at its highest row.
+-- The bridge: where other rows join the ends of a row, some row closes a ring with the rows before it. By the cut of a
+-- walk at its highest row.
 use Prim.Native.Nat.{ℕ, zero, suc, _<_}
 use mathlib.Core.Path.{_≡_, refl, sym, _∙_}
 use mathlib.Core.Logic.{_⊎_, inl, inr}
@@ -13,7 +14,9 @@ use Rattle.tree.proofs.Joined.{joined-refl, joined-step, joined-trans, 
 module _ (u v : ℕ → ℕ) where
   -- A walk, cut at the first and the last use of row k
   abbrev pub Cut : (ℕ → Type 0) → ℕ → ℕ → ℕ → Type 0
-  Cut P k a b = Joined u v (But P k) a b ⊎ ((x : ℕ) × (y : ℕ) × End u v k x × End u v k y × Joined u v (But P k) a x × Joined u v (But P k) y b)
+  Cut P k a b =
+      Joined u v (But P k) a b
+      ⊎ ((x : ℕ) × (y : ℕ) × End u v k x × End u v k y × Joined u v (But P k) a x × Joined u v (But P k) y b)
 
   pub walk-cut : {P : ℕ → Type 0} (k : ℕ) {a b : ℕ} {rs ns : List ℕ} → Walk u v P a rs ns b → Cut P k a b
   walk-cut k stop = inl (joined-refl u v _)
@@ -22,7 +25,8 @@ module _ (u v : ℕ → ℕ) where
       pick : Dec (r ≡ k) → Cut P k c b → Cut P k a b
       pick (no n) (inl t) = inl (joined-step u v (h, n) e t)
       pick (no n) (inr t) = inr (t .0, t .1, t .2, t .3, joined-step u v (h, n) e (t .4), t .5)
-      pick (yes q) (inl t) = inr (a, c, rw q at (ends-left u v e), rw q at (ends-left u v (ends-flip u v e)), joined-refl u v a, t)
+      pick (yes q) (inl t) =
+          inr (a, c, rw q at (ends-left u v e), rw q at (ends-left u v (ends-flip u v e)), joined-refl u v a, t)
       pick (yes q) (inr t) = inr (a, t .1, rw q at (ends-left u v e), t .3, joined-refl u v a, t .5)
 
   -- The ends of row r are joined by other rows: then some row closes a ring with rows before it
@@ -43,7 +47,9 @@ module _ (u v : ℕ → ℕ) where
       low = joined-mono u v (λ s h′. (omega (arith, h′ .0 .0, h′ .1), h′ .0 .1))
 
       through : r < k → {x y : ℕ} → J (u r) x → J y (v r) → Joined u v (First k) x y
-      through l p q = joined-trans u v (joined-sym u v (joined-mono u v (λ s h. h .0) (low p))) (joined-step u v l (inl (refl, refl)) (joined-sym u v (joined-mono u v (λ s h. h .0) (low q))))
+      through l p q =
+          joined-trans u v (joined-sym u v (joined-mono u v (λ s h. h .0) (low p)))
+          (joined-step u v l (inl (refl, refl)) (joined-sym u v (joined-mono u v (λ s h. h .0) (low q))))
 
       meet : r < k → IH → (x y : ℕ) → End u v k x → End u v k y → J (u r) x → J y (v r) → Closes u v (suc k)
       meet l ih x y (inl e) (inl f) p q = up (ih l (joined-trans u v (low p) (rw (sym f ∙ e) at (low q))))

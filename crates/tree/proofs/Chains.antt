@@ -7,10 +7,11 @@ use native.Mathlib.Omega.{arith}
 use native.Mathlib.Decide.{ℕ-discrete}
 use lib.ListN.{length, set, length-set}
 use lib.Seq.{getD-set-same, getD-set-other}
-use Rattle.arrays.specs.Filled.{at}
+use Rattle.arrays.specs.At.{at}
 use Rattle.tree.specs.Graph.{Ends}
-use Rattle.tree.specs.Half.{from}
-use Rattle.tree.specs.Work.{RowsFit, Last, Chained}
+use Rattle.tree.specs.work.Half.{from}
+use Rattle.tree.specs.work.Rows.{RowsFit}
+use Rattle.tree.specs.work.Chains.{Last, Chained}
 
 module _ (us vs : ℕ → ℕ) (h : ℕ) where
   pub from-even : h % 2 ≡ 0 → from us vs h ≡ us (h / 2)
@@ -47,7 +48,8 @@ pub flip-fit : {us vs : ℕ → ℕ} {rows n : ℕ} → RowsFit us vs rows n →
 flip-fit f = record { first = f .second; second = f .first }
 
 -- a row's ends are a half-branch's
-pub ends-half : (us vs : ℕ → ℕ) (rows : ℕ) (r a c : ℕ) → r < rows → Ends us vs r a c → (h : ℕ) × (h < 2 * rows) × (from us vs h ≡ a) × (from vs us h ≡ c)
+pub ends-half : (us vs : ℕ → ℕ) (rows : ℕ) (r a c : ℕ) → r < rows → Ends us vs r a c
+    → (h : ℕ) × (h < 2 * rows) × (from us vs h ≡ a) × (from vs us h ≡ c)
 ends-half us vs rows r a c l (inl e) =
     let q : 2 * r / 2 ≡ r = omega arith in
     let z : 2 * r % 2 ≡ 0 = omega arith in
@@ -78,17 +80,27 @@ module _ (q : ℕ → ℕ) where
       same = omega arith
 
   pub last-miss : (k v x : ℕ) → q k ≢ v → Last q v k x → Last q v (k + 1) x
-  last-miss k v x n l = record { below = omega (arith, l .below); hit = l .hit; none = λ h a b. pick h a b (ℕ-discrete h k) }
+  last-miss k v x n l =
+      record { below = omega (arith, l .below); hit = l .hit; none = λ h a b. pick h a b (ℕ-discrete h k) }
     where
       pick : (h : ℕ) → x ≤ h → h < k + 1 → Dec (h ≡ k) → q h ≢ v
       pick h a b (yes e) = rw e n
       pick h a b (no m) = l .none h a (omega arith)
 
 module _ (us vs : ℕ → ℕ) (rows : ℕ) where
-  pub chained-none : (first next : List ℕ) → length first ≡ 4096 → length next ≡ 8192 → ((v : ℕ) → v < 4096 → at first v ≡ 0) → Chained us vs rows 0 first next
-  chained-none first next l m z = record { within = omega arith; long = (l, m); firsts = λ v h. rw (z v h) (last-none _ v); nexts = λ h b. absurd (omega arith) }
+  pub chained-none : (first next : List ℕ) → length first ≡ 4096 → length next ≡ 8192
+      → ((v : ℕ) → v < 4096 → at first v ≡ 0) → Chained us vs rows 0 first next
+  chained-none first next l m z =
+      record {
+        within = omega arith;
+        long = (l, m);
+        firsts = λ v h. rw (z v h) (last-none _ v);
+        nexts = λ h b. absurd (omega arith);
+      }
 
-  pub chained-more : (k v : ℕ) (first next : List ℕ) → RowsFit us vs rows 4096 → rows < 4096 → k < 2 * rows → v ≡ from us vs k → Chained us vs rows k first next → Chained us vs rows (k + 1) (set first v (k + 1)) (set next k (at first v))
+  pub chained-more : (k v : ℕ) (first next : List ℕ) → RowsFit us vs rows 4096 → rows < 4096 → k < 2 * rows
+      → v ≡ from us vs k → Chained us vs rows k first next
+      → Chained us vs rows (k + 1) (set first v (k + 1)) (set next k (at first v))
   chained-more k v first next f s b e c = record {
     within = omega arith;
     long = (length-set first v _ ∙ c .long .0, length-set next k _ ∙ c .long .1);
@@ -100,12 +112,18 @@ module _ (us vs : ℕ → ℕ) (rows : ℕ) where
       fits = rw e (from-fits us vs k f b)
 
       pick-first : (w : ℕ) → w < 4096 → Dec (w ≡ v) → Last (from us vs) w (k + 1) (at (set first v (k + 1)) w)
-      pick-first w h (yes q) = rw (q, getD-set-same first v (k + 1) 0 (omega (arith, fits, c .long .0))) (last-hit _ k v (sym e))
-      pick-first w h (no m) = rw (getD-set-other first v w (k + 1) 0 m) (last-miss _ k w _ (λ q. m (sym q ∙ sym e)) (c .firsts w h))
+      pick-first w h (yes q) =
+          rw (q, getD-set-same first v (k + 1) 0 (omega (arith, fits, c .long .0))) (last-hit _ k v (sym e))
+      pick-first w h (no m) =
+          rw (getD-set-other first v w (k + 1) 0 m) (last-miss _ k w _ (λ q. m (sym q ∙ sym e)) (c .firsts w h))
 
-      pick-next : (h : ℕ) → h < k + 1 → Dec (h ≡ k) → Last (from us vs) (from us vs h) h (at (set next k (at first v)) h)
-      pick-next h b₁ (yes q) = rw (q, getD-set-same next k (at first v) 0 (omega (arith, c .long .1))) (rw e (c .firsts (from us vs k) (from-fits us vs k f b)))
+      pick-next : (h : ℕ) → h < k + 1 → Dec (h ≡ k)
+          → Last (from us vs) (from us vs h) h (at (set next k (at first v)) h)
+      pick-next h b₁ (yes q) =
+          rw (q, getD-set-same next k (at first v) 0 (omega (arith, c .long .1)))
+          (rw e (c .firsts (from us vs k) (from-fits us vs k f b)))
       pick-next h b₁ (no m) = rw (getD-set-other next k h (at first v) 0 m) (c .nexts h (omega arith))
 
-  pub chained-all : (k : ℕ) (first next : List ℕ) → Chained us vs rows k first next → 2 * rows ≤ k → Chained us vs rows (2 * rows) first next
+  pub chained-all : (k : ℕ) (first next : List ℕ) → Chained us vs rows k first next → 2 * rows ≤ k
+      → Chained us vs rows (2 * rows) first next
   chained-all k first next c b = let e : k ≡ 2 * rows = omega (arith, c .within) in rw e at c

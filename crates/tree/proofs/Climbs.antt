@@ -1,10 +1,11 @@
--- A climb from a node towards the root, and what it has passed: a step up passes one node more. Every climb gets to the root.
+-- A climb from a node towards the root, and what it has passed: a step up passes one node more. Every climb gets to the
+-- root.
 use Prim.Native.Nat.{ℕ, zero, suc, _<_}
 use mathlib.Core.Path.{_≡_, refl, ap}
 use mathlib.Core.Logic.{_⊎_, inl, inr, _≢_, ⊎-elim}
 use native.Mathlib.Omega.{arith}
 use native.Mathlib.Decide.{ℕ-discrete}
-use Rattle.tree.specs.Rooted.{Above, self, up, Passed}
+use Rattle.tree.specs.work.Rooted.{Above, self, up, Passed}
 use Rattle.tree.proofs.Rooted.{above-inv}
 use Rattle.tree.proofs.Above.{Tree, above-trans, above-chain, above-anti, fits-up, place-up}
 
@@ -13,7 +14,8 @@ module _ {n : ℕ} {par place : ℕ → ℕ} (T : Tree n par place) where
   none-passed b h = h .not (above-anti T b (h .above) (h .below))
 
   -- on the climb of x, what is below a's parent is below a, or a's parent
-  pub step-split : {a x z : ℕ} → x < n → a ≢ 0 → Above par a x → Above par (par a) z → Above par z x → Above par a z ⊎ (z ≡ par a)
+  pub step-split : {a x z : ℕ} → x < n → a ≢ 0 → Above par a x → Above par (par a) z → Above par z x
+      → Above par a z ⊎ (z ≡ par a)
   step-split {a} {x} {z} b q l h k = ⊎-elim (λ u. high (above-inv u)) inl (above-chain k l)
     where
       high : (z ≡ a) ⊎ ((a ≢ 0) × Above par z (par a)) → Above par a z ⊎ (z ≡ par a)

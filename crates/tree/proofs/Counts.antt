@@ -1,4 +1,5 @@
--- Counting: the numbers below n, a list without one member, and the laws of Count (one count at the most, the same for the same property, the sum over two parts).
+-- Counting: the numbers below n, a list without one member, and the laws of Count (one count at the most, the same for
+-- the same property, the sum over two parts).
 use Prim.Native.Nat.{ℕ, zero, suc, _+_, _≤_, _<_}
 use mathlib.Core.Path.{_≡_, refl, sym, ap, _∙_}
 use mathlib.Core.Logic.{_⊎_, inl, inr, _≢_, ⊎-elim}
@@ -55,21 +56,31 @@ pub distinct-le : (l m : List ℕ) → Distinct l → ((x : ℕ) → In x l → 
 distinct-le [] m d f = omega arith
 distinct-le (x ∷ l) m d f = drop (without x m (f x (at refl))) (distinct-le l)
   where
-    drop : Without x m → ((m : List ℕ) → Distinct l → ((x : ℕ) → In x l → In x m) → length l ≤ length m) → length (x ∷ l) ≤ length m
+    drop : Without x m → ((m : List ℕ) → Distinct l → ((x : ℕ) → In x l → In x m) → length l ≤ length m)
+        → length (x ∷ l) ≤ length m
     drop w ih = omega (arith, w .1, ih (w .0) (d .1) (λ z i. w .2 z (f z (past i)) (λ q. d .0 (rw q at i))))
 
 pub count-le : {P Q : ℕ → Type 0} {a b : ℕ} → ((x : ℕ) → P x → Q x) → Count P a → Count Q b → a ≤ b
-count-le f p q = omega (arith, p .long, q .long, distinct-le (p .list) (q .list) (p .once) (λ x i. q .all x (f x (p .only x i))))
+count-le f p q =
+    omega (arith, p .long, q .long, distinct-le (p .list) (q .list) (p .once) (λ x i. q .all x (f x (p .only x i))))
 
 -- well defined
 pub count-unique : {P : ℕ → Type 0} {a b : ℕ} → Count P a → Count P b → a ≡ b
 count-unique {P} p q = omega (arith, count-le (λ x h. h) p q, count-le (λ x h. h) q p)
 
 pub count-same : {P Q : ℕ → Type 0} {a : ℕ} → ((x : ℕ) → P x → Q x) → ((x : ℕ) → Q x → P x) → Count P a → Count Q a
-count-same f g p = record { list = p .list; once = p .once; only = λ x i. f x (p .only x i); all = λ x h. p .all x (g x h); long = p .long }
+count-same f g p =
+    record {
+      list = p .list;
+      once = p .once;
+      only = λ x i. f x (p .only x i);
+      all = λ x h. p .all x (g x h);
+      long = p .long;
+    }
 
 pub count-none : {P : ℕ → Type 0} → ((x : ℕ) → ¬ P x) → Count P 0
-count-none n = record { list = []; once = tt; only = λ x i. absurd (not-nil i); all = λ x h. absurd (n x h); long = refl }
+count-none n =
+    record { list = []; once = tt; only = λ x i. absurd (not-nil i); all = λ x h. absurd (n x h); long = refl }
 
 pub count-one : {P : ℕ → Type 0} (x : ℕ) → P x → ((y : ℕ) → P y → y ≡ x) → Count P 1
 count-one {P} x h n = record {
@@ -80,7 +91,8 @@ count-one {P} x h n = record {
   long = refl;
 }
 
-pub count-add : {P Q R : ℕ → Type 0} {a b : ℕ} → Count P a → Count Q b → ((x : ℕ) → P x → Q x → ⊥) → ((x : ℕ) → R x → P x ⊎ Q x) → ((x : ℕ) → P x → R x) → ((x : ℕ) → Q x → R x) → Count R (a + b)
+pub count-add : {P Q R : ℕ → Type 0} {a b : ℕ} → Count P a → Count Q b → ((x : ℕ) → P x → Q x → ⊥)
+    → ((x : ℕ) → R x → P x ⊎ Q x) → ((x : ℕ) → P x → R x) → ((x : ℕ) → Q x → R x) → Count R (a + b)
 count-add p q n f g h = record {
   list = p .list ++ q .list;
   once = distinct-join (p .list) (q .list) (p .once) (q .once) (λ x i j. n x (p .only x i) (q .only x j));
@@ -90,7 +102,13 @@ count-add p q n f g h = record {
 }
 
 pub count-below : {P : ℕ → Type 0} {a : ℕ} (n : ℕ) → ((x : ℕ) → P x → x < n) → Count P a → a ≤ n
-count-below n f p = omega (arith, p .long, upto-length n, distinct-le (p .list) (upto n) (p .once) (λ x i. upto-in n x (f x (p .only x i))))
+count-below n f p =
+    omega (
+      arith,
+      p .long,
+      upto-length n,
+      distinct-le (p .list) (upto n) (p .once) (λ x i. upto-in n x (f x (p .only x i))),
+    )
 
 pub count-some : {P : ℕ → Type 0} {a : ℕ} (x : ℕ) → P x → Count P a → 0 < a
 count-some x h p = some (p .list) (p .all x h) (p .long)
@@ -113,7 +131,11 @@ count-dec {P} (suc n) d = pick (d n) (count-dec n d)
         off : (x : ℕ) → (x < suc n) × P x → Dec (x ≡ n) → x < n
         off x h (yes e) = absurd (m (rw e at (h .1)))
         off x h (no q) = omega (arith, h .0)
-    pick (yes p) t = (1 + t .0, count-add {P = λ x. x ≡ n} (count-one n refl (λ y e. e)) (t .1) (λ x e h. omega (arith, h .0)) (λ x h. which x h (ℕ-discrete x n)) (λ x e. (omega arith, rw e p)) lower)
+    pick (yes p) t = (
+      1 + t .0,
+      count-add {P = λ x. x ≡ n} (count-one n refl (λ y e. e)) (t .1) (λ x e h. omega (arith, h .0))
+          (λ x h. which x h (ℕ-discrete x n)) (λ x e. (omega arith, rw e p)) lower,
+    )
       where
         which : (x : ℕ) → (x < suc n) × P x → Dec (x ≡ n) → (x ≡ n) ⊎ ((x < n) × P x)
         which x h (yes e) = inl e
@@ -122,7 +144,10 @@ count-dec {P} (suc n) d = pick (d n) (count-dec n d)
 -- all numbers below n
 pub count-all : (n : ℕ) → Count (λ x. x < n) n
 count-all zero = count-none (λ x h. omega arith)
-count-all (suc n) = rw (one-add n) at (count-add {P = λ x. x ≡ n} {R = λ x. x < suc n} (count-one n refl (λ y e. e)) (count-all n) (λ x e h. omega arith) (λ x h. pick x h (ℕ-discrete x n)) (λ x e. omega arith) (λ x h. omega arith))
+count-all (suc n) =
+    rw (one-add n)
+    at (count-add {P = λ x. x ≡ n} {R = λ x. x < suc n} (count-one n refl (λ y e. e)) (count-all n)
+    (λ x e h. omega arith) (λ x h. pick x h (ℕ-discrete x n)) (λ x e. omega arith) (λ x h. omega arith))
   where
     pick : (x : ℕ) → x < suc n → Dec (x ≡ n) → (x ≡ n) ⊎ (x < n)
     pick x h (yes e) = inl e

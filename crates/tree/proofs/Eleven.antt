@@ -15,7 +15,7 @@ use Rattle.arrays.specs.Members.{In}
 use Rattle.tree.specs.Graph.{Ends, RingAt, Forest, Ring}
 use Rattle.tree.specs.Net.{firstEnd, secondEnd}
 use Rattle.tree.specs.Ring.{RingRows}
-use Rattle.tree.specs.Accept.{Outcome, refusal, found, Rings, Accepts}
+use Rattle.tree.specs.Accept.{AcceptanceOutcome, acceptanceRefusal, netAccepted, Rings, Accepts}
 use Rattle.tree.proofs.Rows.{Closes}
 use Rattle.tree.proofs.Labels.{joined?}
 use Rattle.tree.proofs.RingExactly.{ring-closes, closes-ring}
@@ -50,20 +50,20 @@ first-of s (suc k) = pick (first-of s k) (joined? (firstEnd s) (secondEnd s) k (
 
 -- a good table is refused by 11 at the first row that closes a ring
 pub first-refused : (s : List ℕ) → GoodTable s → (r g : ℕ) → r < nodesOf s - 1 → Forest (firstEnd s) (secondEnd s) r
-    → RingRows (firstEnd s) (secondEnd s) r g → (g ≡ 0 → ⊥) → Accepts s (refusal 11 r g)
+    → RingRows (firstEnd s) (secondEnd s) r g → (g ≡ 0 → ⊥) → Accepts s (acceptanceRefusal 11 r g)
 first-refused s t r g l f p z =
     let c = row-closed (firstEnd s) (secondEnd s) p z in
-    passed-on (λ k r. refusal k r 0) s (nodesOf s) (boundOf s) t
+    passed-on (λ k r. acceptanceRefusal k r 0) s (nodesOf s) (boundOf s) t
     (rings-bad s (nodesOf s) r g
     (record { within = omega arith; forest = f; closes = λ h. (c .0, c .1 .0, c .1 .1) }) l p)
 
 pub ring-refused : (s : List ℕ) → GoodTable s → Ring (firstEnd s) (secondEnd s) (nodesOf s - 1)
-    → (r : ℕ) × (g : ℕ) × Accepts s (refusal 11 r g)
+    → (r : ℕ) × (g : ℕ) × Accepts s (acceptanceRefusal 11 r g)
 ring-refused s g o = pick (first-of s (nodesOf s - 1)) (ring-closes (firstEnd s) (secondEnd s) o)
   where
     pick : Forest (firstEnd s) (secondEnd s) (nodesOf s - 1)
         ⊎ ((r : ℕ) × (r < nodesOf s - 1) × Forest (firstEnd s) (secondEnd s) r × RingAt (firstEnd s) (secondEnd s) r)
-        → Closes (firstEnd s) (secondEnd s) (nodesOf s - 1) → (r : ℕ) × (g : ℕ) × Accepts s (refusal 11 r g)
+        → Closes (firstEnd s) (secondEnd s) (nodesOf s - 1) → (r : ℕ) × (g : ℕ) × Accepts s (acceptanceRefusal 11 r g)
     pick (inl f) c = absurd (f (c .0) (c .1) (c .2))
     pick (inr t) c =
         let n = row-number (firstEnd s) (secondEnd s) (t .3) in (
@@ -81,27 +81,29 @@ pub record Closer (s : List ℕ) (r g : ℕ) : Type 0 where
   pub some : g ≡ 0 → ⊥
 
 module _ (s : List ℕ) where
-  eleven : (x : Outcome) → x .number ≡ 11 → GoodTable s
-      → Rings Outcome refusal s (nodesOf s) (λ x. x ≡ found (nodesOf s) (boundOf s)) x → Closer s (x .row) (x .ring)
+  eleven : (x : AcceptanceOutcome) → x .number ≡ 11 → GoodTable s
+      → Rings AcceptanceOutcome acceptanceRefusal s (nodesOf s) (λ x. x ≡ netAccepted (nodesOf s) (boundOf s)) x
+      → Closer s (x .row) (x .ring)
   eleven x e t (bad r k l before is not) =
       record { good = t; below = l; before = rows-open (firstEnd s) (secondEnd s) before; number = is; some = not }
   eleven x e t (fine all (refused c)) = absurd (omega arith)
-  eleven x e t (fine all (passed w p)) = absurd (omega (arith, ap (λ (o : Outcome). o .number) p))
+  eleven x e t (fine all (passed w p)) = absurd (omega (arith, ap (λ (o : AcceptanceOutcome). o .number) p))
 
-  pub closer : (r g : ℕ) → Accepts s (refusal 11 r g) → Closer s r g
+  pub closer : (r g : ℕ) → Accepts s (acceptanceRefusal 11 r g) → Closer s r g
   closer r g p =
-      let t = tested-past (λ k r. refusal k r 0) s
-      (λ k q _ l e. omega (arith, l, ap (λ (o : Outcome). o .number) e)) p in
-      eleven (refusal 11 r g) refl (t .0) (t .1)
+      let t = tested-past (λ k r. acceptanceRefusal k r 0) s
+      (λ k q _ l e. omega (arith, l, ap (λ (o : AcceptanceOutcome). o .number) e)) p in
+      eleven (acceptanceRefusal 11 r g) refl (t .0) (t .1)
 
-  pub refused-ring : (r : ℕ) × (g : ℕ) × Accepts s (refusal 11 r g) → Ring (firstEnd s) (secondEnd s) (nodesOf s - 1)
+  pub refused-ring : (r : ℕ) × (g : ℕ) × Accepts s (acceptanceRefusal 11 r g)
+      → Ring (firstEnd s) (secondEnd s) (nodesOf s - 1)
   refused-ring q =
       let c = closer (q .0) (q .1) (q .2) in
       let p = row-closed (firstEnd s) (secondEnd s) (c .number) (c .some) in
       closes-ring (firstEnd s) (secondEnd s) (ends-differ s (c .good)) (q .0, c .below, (p .0, p .1 .0, p .1 .1))
 
   -- What the number says
-  module _ (r g : ℕ) (p : Accepts s (refusal 11 r g)) where
+  module _ (r g : ℕ) (p : Accepts s (acceptanceRefusal 11 r g)) where
     pub ring-counted : (o : Ring (firstEnd s) (secondEnd s) (r + 1)) × In r (o .rs) × (length (o .rs) ≡ g)
     ring-counted =
         let c = closer r g p in

@@ -7,7 +7,8 @@ use Rattle.arrays.proofs.Members.{in?, not-nil}
 
 module _ (u v : ℕ → ℕ) where
   -- the rest of a simple path from a node that it meets
-  pub rest : {P : ℕ → Type 0} {a b x : ℕ} {rs ns : List ℕ} → Walk u v P a rs ns b → Distinct (a ∷ ns) → In x (a ∷ ns) → Simple u v P x b
+  pub rest : {P : ℕ → Type 0} {a b x : ℕ} {rs ns : List ℕ} → Walk u v P a rs ns b → Distinct (a ∷ ns) → In x (a ∷ ns)
+      → Simple u v P x b
   rest {x} stop d (at e) = ([], [], rw e stop, (not-nil, tt))
   rest (go {r} {c} {rs} {ns} h e w) d (at q) = (r ∷ rs, c ∷ ns, rw q (go h e w), rw q d)
   rest (go h e w) d (past m) = rest w (d .1) m

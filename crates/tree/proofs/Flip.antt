@@ -30,7 +30,17 @@ module _ (u v : ℕ → ℕ) where
 
   pub flip : {P : ℕ → Type 0} {a b : ℕ} {rs ns : List ℕ} → Walk u v P a rs ns b → Flipped P a b rs ns
   unfolding Total
-  flip stop = record { rows = []; nodes = []; walk = stop; sum = λ f. refl; total = λ g. refl; to = λ z i. i; fro = λ z i. i; once = λ d. d }
+  flip stop =
+      record {
+        rows = [];
+        nodes = [];
+        walk = stop;
+        sum = λ f. refl;
+        total = λ g. refl;
+        to = λ z i. i;
+        fro = λ z i. i;
+        once = λ d. d;
+      }
   flip {P} {a} {b} (go {r} {c = c} {rs = rs} {ns = ns} h e w) =
       let p = flip w in
       record {
@@ -48,10 +58,16 @@ module _ (u v : ℕ → ℕ) where
       back z p (at q) = in-right (b ∷ p .nodes) (at q)
       back z p (past i) = in-left (a ∷ []) (p .fro z i)
 
-  pub value-flip : {k a b l : ℕ} {long : ℕ → ℕ} {heavy : ℕ → ℤ} {w : ℤ} → Value u v k long heavy a b l w → Value u v k long heavy b a l w
+  pub value-flip : {k a b l : ℕ} {long : ℕ → ℕ} {heavy : ℕ → ℤ} {w : ℤ} → Value u v k long heavy a b l w
+      → Value u v k long heavy b a l w
   value-flip {long = long} {heavy = heavy} p =
       let f = flip (p .path .1) in
-      record { rows = f .rows; path = (f .nodes, f .walk, f .once (p .path .2)); length = f .sum long ∙ p .length; weight = f .total heavy ∙ p .weight }
+      record {
+        rows = f .rows;
+        path = (f .nodes, f .walk, f .once (p .path .2));
+        length = f .sum long ∙ p .length;
+        weight = f .total heavy ∙ p .weight;
+      }
 
 pub two-flip : {n a b : ℕ} → TwoNodes n a b → TwoNodes n b a
 two-flip t = record { first = t .second; second = t .first; apart = λ e. t .apart (omega (arith, e)) }

@@ -6,16 +6,24 @@ use mathlib.Core.List.{List}
 use native.Mathlib.Omega.{arith}
 use native.Mathlib.Numerals.{one-add}
 use native.Mathlib.Decide.{ℕ-discrete}
-use Rattle.arrays.specs.Filled.{at}
+use Rattle.arrays.specs.At.{at}
 use Rattle.tree.specs.Graph.{First, Ends, Walk, stop, go, Joined, Forest}
 use Rattle.tree.specs.Count.{Count}
-use Rattle.tree.specs.Rooted.{Rooted}
-use Rattle.tree.specs.Walked.{Reached, Walked}
-use Rattle.tree.specs.Grown.{Grown}
-use Rattle.tree.specs.Work.{RowsFit}
+use Rattle.tree.specs.work.Rooted.{Rooted}
+use Rattle.tree.specs.work.Walked.{Reached, Walked}
+use Rattle.tree.specs.work.Grown.{Grown}
+use Rattle.tree.specs.work.Rows.{RowsFit}
 use Rattle.tree.proofs.Rows.{ends-flip}
 use Rattle.tree.proofs.Joined.{joined-trans, joined-sym}
-use Rattle.tree.proofs.Counts.{count-unique, count-same, count-none, count-one, count-add, count-all, count-full}
+use Rattle.tree.proofs.Counts.{
+  count-unique,
+  count-same,
+  count-none,
+  count-one,
+  count-add,
+  count-all,
+  count-full,
+}
 use Rattle.tree.proofs.Above.{Tree}
 use Rattle.tree.proofs.Chains.{from-fits, half-ends}
 
@@ -46,7 +54,8 @@ module _ {n : ℕ} {parent order place : List ℕ} (g : Grown n parent order pla
   read-parent i v p z b e f = omega (arith, par-fits i z b, g .some .1, ap (at parent) e)
 
 -- From the walk's promise, where the rows join nodes below n
-module _ (us vs : ℕ → ℕ) (rows n m : ℕ) (parent half order place : List ℕ) (small : n ≤ 4096) (some : 1 ≤ n) (fit : RowsFit us vs rows n) (w : Walked us vs rows m parent half order place) where
+module _ (us vs : ℕ → ℕ) (rows n m : ℕ) (parent half order place : List ℕ) (small : n ≤ 4096) (some : 1 ≤ n)
+    (fit : RowsFit us vs rows n) (w : Walked us vs rows m parent half order place) where
   abbrev J : ℕ → Type 0
   J x = Joined us vs (First rows) 0 x
 
@@ -63,30 +72,44 @@ module _ (us vs : ℕ → ℕ) (rows n m : ℕ) (parent half order place : List 
 
   placed : (i : ℕ) → i ≤ m → Count (λ x. (x < n) × J x × (at place x < i)) i
   placed zero l = count-none (λ x h. omega (arith, h .2))
-  placed (suc i) l = rw (one-add i) at (count-add {P = λ x. x ≡ at order i} {R = λ x. (x < n) × J x × (at place x < suc i)} (count-one (at order i) refl (λ y e. e)) (placed i (omega arith)) apart (λ x h. pick x h (ℕ-discrete (at place x) i)) last (λ x h. (h .0, h .1, omega (arith, h .2))))
+  placed (suc i) l =
+      rw (one-add i)
+      at (count-add {P = λ x. x ≡ at order i} {R = λ x. (x < n) × J x × (at place x < suc i)}
+      (count-one (at order i) refl (λ y e. e)) (placed i (omega arith)) apart
+      (λ x h. pick x h (ℕ-discrete (at place x) i)) last (λ x h. (h .0, h .1, omega (arith, h .2))))
     where
       apart : (x : ℕ) → x ≡ at order i → (x < n) × J x × (at place x < i) → ⊥
       apart x e h = omega (arith, h .2, w .back i (omega arith), ap (at place) e)
 
       last : (x : ℕ) → x ≡ at order i → (x < n) × J x × (at place x < suc i)
-      last x e = (rw e (node i (omega arith)), rw e (w .joined i (omega arith)), omega (arith, w .back i (omega arith), ap (at place) e))
+      last x e = (
+        rw e (node i (omega arith)),
+        rw e (w .joined i (omega arith)),
+        omega (arith, w .back i (omega arith), ap (at place) e),
+      )
 
-      pick : (x : ℕ) → (x < n) × J x × (at place x < suc i) → Dec (at place x ≡ i) → (x ≡ at order i) ⊎ ((x < n) × J x × (at place x < i))
+      pick : (x : ℕ) → (x < n) × J x × (at place x < suc i) → Dec (at place x ≡ i)
+          → (x ≡ at order i) ⊎ ((x < n) × J x × (at place x < i))
       pick x h (yes e) = inl (sym (w .listed x (omega (arith, h .0)) (h .1) .1) ∙ ap (at order) e)
       pick x h (no q) = inr (h .0, h .1, omega (arith, h .2))
 
   -- m is the number of nodes that are joined to node 0
   pub reached-count : Count (λ x. (x < n) × J x) m
-  reached-count = count-same (λ x h. (h .0, h .1)) (λ x h. (h .0, h .1, w .listed x (omega (arith, h .0)) (h .1) .0)) (placed m (omega arith))
+  reached-count =
+      count-same (λ x h. (h .0, h .1)) (λ x h. (h .0, h .1, w .listed x (omega (arith, h .0)) (h .1) .0))
+      (placed m (omega arith))
 
   -- all n nodes are joined exactly if no fewer than n were reached
   pub reached-all : ((x : ℕ) → x < n → J x) → m ≡ n
-  reached-all all = count-unique (count-same {Q = λ x. x < n} (λ x h. h .0) (λ x h. (h, all x h)) reached-count) (count-all n)
+  reached-all all =
+      count-unique (count-same {Q = λ x. x < n} (λ x h. h .0) (λ x h. (h, all x h)) reached-count) (count-all n)
 
   pub all-joined : n ≤ m → (x : ℕ) → x < n → J x
   all-joined l x b = count-full n (λ x h. h .0) reached-count l x b .1
 
-module _ (us vs : ℕ → ℕ) (rows n : ℕ) (parent half order place : List ℕ) (small : n ≤ 4096) (some : 1 ≤ n) (fit : RowsFit us vs rows n) (all : (x : ℕ) → x < n → Joined us vs (First rows) 0 x) (w : Walked us vs rows n parent half order place) where
+module _ (us vs : ℕ → ℕ) (rows n : ℕ) (parent half order place : List ℕ) (small : n ≤ 4096) (some : 1 ≤ n)
+    (fit : RowsFit us vs rows n) (all : (x : ℕ) → x < n → Joined us vs (First rows) 0 x)
+    (w : Walked us vs rows n parent half order place) where
   here : (x : ℕ) → x < n → (at place x < n) × (at order (at place x) ≡ x)
   here x b = w .listed x (omega arith) (all x b)
 

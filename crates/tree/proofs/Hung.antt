@@ -1,4 +1,5 @@
--- Every accepted net hangs from node 0 without any walk: a node's parent and row are the first on its simple path to node 0, and its place how many rows that path has.
+-- Every accepted net hangs from node 0 without any walk: a node's parent and row are the first on its simple path to
+-- node 0, and its place how many rows that path has.
 use Prim.Native.Nat.{ℕ, _-_, _<_}
 use mathlib.Core.Path.{_≡_, refl, ap}
 use mathlib.Core.Logic.{inl, inr, _≢_}
@@ -8,8 +9,9 @@ use native.Mathlib.Decide.{decLt}
 use lib.ListN.{length}
 use Rattle.arrays.specs.Members.{Distinct}
 use Rattle.tree.specs.Graph.{First, Ends, Walk, stop, go, Joined, Simple, Forest}
-use Rattle.tree.specs.Rooted.{Rooted}
-use Rattle.tree.specs.Net.{firstEnd, secondEnd, Net}
+use Rattle.tree.specs.work.Rooted.{Rooted}
+use Rattle.tree.specs.Net.{firstEnd, secondEnd}
+use Rattle.tree.specs.work.Net.{Net}
 use Rattle.tree.proofs.Joined.{joined-trans, joined-sym}
 use Rattle.tree.proofs.Erase.{simple}
 use Rattle.tree.proofs.OnePath.{unique}
@@ -28,7 +30,8 @@ first : List ℕ → ℕ
 first [] = 0
 first (y ∷ l) = y
 
-module _ {u v : ℕ → ℕ} {k n : ℕ} (F : Forest u v k) (fit : (r : ℕ) → r < k → (u r < n) × (v r < n)) (all : (x : ℕ) → x < n → Joined u v (First k) 0 x) where
+module _ {u v : ℕ → ℕ} {k n : ℕ} (F : Forest u v k) (fit : (r : ℕ) → r < k → (u r < n) × (v r < n))
+    (all : (x : ℕ) → x < n → Joined u v (First k) 0 x) where
   home : (x : ℕ) → x < n → Simple u v (First k) x 0
   home x b = simple u v (joined-sym u v (all x b))
 
@@ -50,7 +53,8 @@ module _ {u v : ℕ → ℕ} {k n : ℕ} (F : Forest u v k) (fit : (r : ℕ) →
   place x = length (rows-home x (decLt x n))
 
   -- by whatever simple path
-  home-is : (x : ℕ) (d : Dec (x < n)) → x < n → {rs ns : List ℕ} → Walk u v (First k) x rs ns 0 → Distinct (x ∷ ns) → (rows-home x d ≡ rs) × (nodes-home x d ≡ ns)
+  home-is : (x : ℕ) (d : Dec (x < n)) → x < n → {rs ns : List ℕ} → Walk u v (First k) x rs ns 0 → Distinct (x ∷ ns)
+      → (rows-home x d ≡ rs) × (nodes-home x d ≡ ns)
   unfolding rows-home nodes-home
   home-is x (yes b) c w d = unique u v F (home x b .2) w (home x b .3) d
   home-is x (no m) c w d = absurd (m c)
@@ -61,7 +65,8 @@ module _ {u v : ℕ → ℕ} {k n : ℕ} (F : Forest u v k) (fit : (r : ℕ) →
     fits : par x < n
     less : place (par x) < place x
 
-  step-of : {x y : ℕ} {rs ns : List ℕ} → x < n → x ≢ 0 → y ≡ 0 → Walk u v (First k) x rs ns y → Distinct (x ∷ ns) → Step x
+  step-of : {x y : ℕ} {rs ns : List ℕ} → x < n → x ≢ 0 → y ≡ 0 → Walk u v (First k) x rs ns y → Distinct (x ∷ ns)
+      → Step x
   unfolding par row place first
   step-of b z q stop d = absurd (z q)
   step-of {x} b z q (go {r} {c = c} {rs = rs} {ns = ns} h e w) d =
@@ -70,7 +75,12 @@ module _ {u v : ℕ → ℕ} {k n : ℕ} (F : Forest u v k) (fit : (r : ℕ) →
       let ec : par x ≡ c = ap first (all-of .1) in
       let fc : c < n = side e in
       let ep : place c ≡ length rs = ap length (home-is c (decLt c n) fc (rw q at w) (d .1) .0) in
-      record { low = rw er h; ends = rw (er, ec) e; fits = rw ec fc; less = omega (arith, ap place ec, ep, ap length (all-of .0)) }
+      record {
+        low = rw er h;
+        ends = rw (er, ec) e;
+        fits = rw ec fc;
+        less = omega (arith, ap place ec, ep, ap length (all-of .0));
+      }
     where
       side : {a : ℕ} → Ends u v r a c → c < n
       side (inl p) = rw (p .1) at (fit r h .1)
@@ -81,7 +91,9 @@ module _ {u v : ℕ → ℕ} {k n : ℕ} (F : Forest u v k) (fit : (r : ℕ) →
 
   short : (x : ℕ) → x < n → place x < n
   unfolding place
-  short x b = let p = home x b in omega (arith, path-rows fit b (p .2) (p .3), ap length (home-is x (decLt x n) b (p .2) (p .3) .0))
+  short x b =
+      let p = home x b in
+      omega (arith, path-rows fit b (p .2) (p .3), ap length (home-is x (decLt x n) b (p .2) (p .3) .0))
 
   pub hangs : Hangs u v k n
   hangs = record {

@@ -1,4 +1,5 @@
--- Labels: a number for each node, the same at two nodes exactly where the first k rows join them. So joined is decided, and computes.
+-- Labels: a number for each node, the same at two nodes exactly where the first k rows join them. So joined is decided,
+-- and computes.
 use Prim.Native.Nat.{ℕ, zero, suc, _<_}
 use mathlib.Core.Path.{_≡_, refl, sym, _∙_}
 use mathlib.Core.Logic.{inl, inr, _≢_}
@@ -40,7 +41,8 @@ relabel-miss p q z n = pick (ℕ-discrete z p)
 
 module _ (u v : ℕ → ℕ) where
   -- what is the same at the two ends of each row is the same at joined nodes
-  pub walk-constant : {P : ℕ → Type 0} {a b : ℕ} {rs ns : List ℕ} (f : ℕ → ℕ) → ((r : ℕ) → P r → f (u r) ≡ f (v r)) → Walk u v P a rs ns b → f a ≡ f b
+  pub walk-constant : {P : ℕ → Type 0} {a b : ℕ} {rs ns : List ℕ} (f : ℕ → ℕ) → ((r : ℕ) → P r → f (u r) ≡ f (v r))
+      → Walk u v P a rs ns b → f a ≡ f b
   walk-constant f c stop = refl
   walk-constant {b} f c (go {r} {a} {c = x} h e w) = side e (c r h) ∙ walk-constant f c w
     where
@@ -48,7 +50,8 @@ module _ (u v : ℕ → ℕ) where
       side (inl e) q = cc
       side (inr e) q = cc
 
-  pub joined-constant : {P : ℕ → Type 0} {a b : ℕ} (f : ℕ → ℕ) → ((r : ℕ) → P r → f (u r) ≡ f (v r)) → Joined u v P a b → f a ≡ f b
+  pub joined-constant : {P : ℕ → Type 0} {a b : ℕ} (f : ℕ → ℕ) → ((r : ℕ) → P r → f (u r) ≡ f (v r)) → Joined u v P a b
+      → f a ≡ f b
   joined-constant f c w = walk-constant f c (w .2)
 
   -- the label of a node once the rows below k have been seen
@@ -61,7 +64,8 @@ module _ (u v : ℕ → ℕ) where
   label-ends zero s h = absurd (not-suc-le-zero h)
   label-ends (suc k) s h = pick (ℕ-discrete s k) (label-ends k s) (ℕ-discrete (label k (v k)) (label k (u k)))
     where
-      pick : Dec (s ≡ k) → (s < k → label k (u s) ≡ label k (v s)) → Dec (label k (v k) ≡ label k (u k)) → label (suc k) (u s) ≡ label (suc k) (v s)
+      pick : Dec (s ≡ k) → (s < k → label k (u s) ≡ label k (v s)) → Dec (label k (v k) ≡ label k (u k))
+          → label (suc k) (u s) ≡ label (suc k) (v s)
       pick (no n) ih d = rw (ih (omega arith))
       pick (yes e) ih (yes q) = rw (e, q)
       pick (yes e) ih (no n) = rw (e, relabel-hit _ _ (label k (u k)) refl, relabel-miss _ _ _ n)
@@ -72,7 +76,8 @@ module _ (u v : ℕ → ℕ) where
   pub label-joined : (k a b : ℕ) → label k a ≡ label k b → Joined u v (First k) a b
   unfolding label
   label-joined zero a b e = rw e (joined-refl u v b)
-  label-joined (suc k) a b e = pick (ℕ-discrete (label k a) (label k (u k))) (ℕ-discrete (label k b) (label k (u k))) (label-joined k)
+  label-joined (suc k) a b e =
+      pick (ℕ-discrete (label k a) (label k (u k))) (ℕ-discrete (label k b) (label k (u k))) (label-joined k)
     where
       up : {x y : ℕ} → Joined u v (First k) x y → Joined u v (First (suc k)) x y
       up = joined-mono u v (λ s h. omega arith)
@@ -80,10 +85,12 @@ module _ (u v : ℕ → ℕ) where
       cross : {x y : ℕ} → Joined u v (First k) x (u k) → Joined u v (First k) (v k) y → Joined u v (First (suc k)) x y
       cross w t = joined-trans u v (up w) (joined-step u v (omega arith) (inl (refl, refl)) (up t))
 
-      pick : Dec (label k a ≡ label k (u k)) → Dec (label k b ≡ label k (u k)) → ((x y : ℕ) → label k x ≡ label k y → Joined u v (First k) x y) → Joined u v (First (suc k)) a b
+      pick : Dec (label k a ≡ label k (u k)) → Dec (label k b ≡ label k (u k))
+          → ((x y : ℕ) → label k x ≡ label k y → Joined u v (First k) x y) → Joined u v (First (suc k)) a b
       pick (yes p) (yes q) ih = up (ih a b (cc))
       pick (yes p) (no q) ih = cross (ih a (u k) p) (ih (v k) b (sym (relabel-hit _ _ _ p) ∙ e ∙ relabel-miss _ _ _ q))
-      pick (no p) (yes q) ih = joined-sym u v (cross (ih b (u k) q) (ih (v k) a (sym (relabel-hit _ _ _ q) ∙ sym e ∙ relabel-miss _ _ _ p)))
+      pick (no p) (yes q) ih =
+          joined-sym u v (cross (ih b (u k) q) (ih (v k) a (sym (relabel-hit _ _ _ q) ∙ sym e ∙ relabel-miss _ _ _ p)))
       pick (no p) (no q) ih = up (ih a b (sym (relabel-miss _ _ _ p) ∙ e ∙ relabel-miss _ _ _ q))
 
   pub joined? : (k a b : ℕ) → Dec (Joined u v (First k) a b)

@@ -7,11 +7,14 @@ use native.Mathlib.Omega.{arith}
 use native.Mathlib.Decide.{ℕ-discrete, decLe}
 use lib.ListN.{set, length-set}
 use lib.Seq.{getD-set-same, getD-set-other}
-use Rattle.arrays.specs.Filled.{at, Filled}
+use Rattle.arrays.specs.At.{at}
+use Rattle.arrays.specs.work.Filled.{Filled}
 use Rattle.arrays.specs.Members.{In}
-use Rattle.tree.specs.Half.{from}
-use Rattle.tree.specs.Walked.{Reached, High}
-use Rattle.tree.specs.Work.{RowsFit, Last, Chained, Queue, Outer}
+use Rattle.tree.specs.work.Half.{from}
+use Rattle.tree.specs.work.Walked.{Reached, High}
+use Rattle.tree.specs.work.Rows.{RowsFit}
+use Rattle.tree.specs.work.Chains.{Last, Chained}
+use Rattle.tree.specs.work.Queue.{Queue, Outer}
 use Rattle.tree.proofs.Chains.{from-fits, flip-fit}
 use Rattle.tree.proofs.Counts.{upto, upto-length, upto-in, Without, without}
 

@@ -1,19 +1,20 @@
--- Two climbs: the simple path between two nodes whose climbs meet at t goes up the one and down the other. Its nodes are those of the two climbs, and a sum along it,
--- of naturals (lengths) or signed (weights), is that of the two climbs less twice that of t.
+-- Two climbs: the simple path between two nodes whose climbs meet at t goes up the one and down the other. Its nodes
+-- are those of the two climbs, and a sum along it, of naturals (lengths) or signed (weights), is that of the two climbs
+-- less twice that of t.
 use Prim.Native.Nat.{ℕ, _+_, _*_, _<_}
 use mathlib.Core.Path.{_≡_, refl, ap}
 use mathlib.Core.Logic.{_⊎_, inl, inr, _≢_, ⊎-elim}
 use mathlib.Core.List.{List, [], _∷_, _++_}
 use native.Mathlib.Omega.{arith}
 use lib.IntN.{ℤ}
-use Rattle.table.specs.Signed.{Diff}
-use Rattle.table.specs.Signed as signed
+use Rattle.table.specs.work.Diff.{Diff}
+use Rattle.table.specs.work.Diff as signed
 use Rattle.table.proofs.Lift as lift
 use Rattle.arrays.specs.Members.{In, at, Distinct}
 use Rattle.tree.specs.Graph.{First, Walk, stop}
 use Rattle.tree.specs.Path.{Sum}
 use Rattle.tree.specs.Value.{Total, Value}
-use Rattle.tree.specs.Rooted.{Above, self, up, Passed, Rooted}
+use Rattle.tree.specs.work.Rooted.{Above, self, up, Passed, Rooted}
 use Rattle.arrays.proofs.Members.{not-nil, in-one, in-left, in-right, in-either}
 use Rattle.tree.proofs.Rooted.{above-inv, sum-snoc, away-up, away-down}
 use Rattle.tree.proofs.Values.{total-snoc}
@@ -71,10 +72,13 @@ module _ {u v : ℕ → ℕ} {k n : ℕ} {par row place : ℕ → ℕ} (R : Root
         walk = a .0;
         once = a .1;
         above = above-trans (up q refl self) (p .above);
-        only = λ z i. ⊎-elim (λ j. let o = p .only z j in (above-trans (up q refl self) (o .0), o .1)) (λ j. last z j) (in-either (x ∷ p .nodes) i);
-        all = λ z h g. ⊎-elim (λ s. in-left (par w ∷ []) (p .all z s g)) (λ e. in-right (x ∷ p .nodes) (at e)) (step-split T b q (p .above) h g);
+        only = λ z i. ⊎-elim (λ j. let o = p .only z j in (above-trans (up q refl self) (o .0), o .1)) (λ j. last z j)
+            (in-either (x ∷ p .nodes) i);
+        all = λ z h g. ⊎-elim (λ s. in-left (par w ∷ []) (p .all z s g)) (λ e. in-right (x ∷ p .nodes) (at e))
+            (step-split T b q (p .above) h g);
         sum = λ f d s. omega (arith, sum-snoc f (p .rows) (row w), p .sum f d s, s w fw q);
-        total = λ g e s. rw (total-snoc g (p .rows) (row w)) (lift.same (omega arith) (lift.sum (p .total g e s) (s w fw q)));
+        total = λ g e s. rw (total-snoc g (p .rows) (row w))
+            (lift.same (omega arith) (lift.sum (p .total g e s) (s w fw q)));
       }
     where
       last : (z : ℕ) → In z (par w ∷ []) → Above par (par w) z × Above par z x
@@ -95,7 +99,8 @@ module _ {u v : ℕ → ℕ} {k n : ℕ} {par row place : ℕ → ℕ} (R : Root
     pub sum : (f d : ℕ → ℕ) → Sums par row n f d → Sum f rows + 2 * d t ≡ d x + d y
     pub total : (g : ℕ → ℤ) (e : ℕ → ℕ) → Totals par row n g e → Diff (e x + e y) (2 * e t) (Total g rows)
 
-  pub route : {t x y : ℕ} → x < n → y < n → Above par t x → Above par t y → ((z : ℕ) → Passed par t x z → Passed par t y z → ⊥) → Route t x y
+  pub route : {t x y : ℕ} → x < n → y < n → Above par t x → Above par t y
+      → ((z : ℕ) → Passed par t x z → Passed par t y z → ⊥) → Route t x y
   route {t} {x} b c h self n =
       let p = climb b (up-start x b) h in
       record {
@@ -109,13 +114,17 @@ module _ {u v : ℕ → ℕ} {k n : ℕ} {par row place : ℕ → ℕ} (R : Root
         total = λ g e s. lift.same (omega arith) (p .total g e s);
       }
   route {t} {x} {y} b c h (up {y = m} q e j) dis =
-      more (route b (rw e at (T .fits y c q)) h j (λ z f g. dis z f (record { above = up q e (g .above); below = g .below; not = g .not })))
+      more
+      (route b (rw e at (T .fits y c q)) h j
+      (λ z f g. dis z f (record { above = up q e (g .above); below = g .below; not = g .not })))
     where
       below : y ≢ t
       below s = omega (arith, place-up T (rw e at (T .fits y c q)) j, rw e at (T .earlier y c q), ap place s)
 
       out : ¬ Above par y x
-      out a = dis y (record { above = a; below = up q e j; not = below }) (record { above = self; below = up q e j; not = below })
+      out a =
+          dis y (record { above = a; below = up q e j; not = below })
+          (record { above = self; below = up q e j; not = below })
 
       last : (z : ℕ) → In z (y ∷ []) → Above par t z × (Above par z x ⊎ Above par z y)
       last z i = let s = in-one i in (rw s (up q e j), inr (rw s self))
@@ -133,16 +142,21 @@ module _ {u v : ℕ → ℕ} {k n : ℕ} {par row place : ℕ → ℕ} (R : Root
             nodes = p .nodes ++ (y ∷ []);
             walk = a .0;
             once = a .1;
-            only = λ z i. ⊎-elim (λ j. let o = p .only z j in (o .0, wider (o .1))) (λ j. last z j) (in-either (x ∷ p .nodes) i);
+            only = λ z i. ⊎-elim (λ j. let o = p .only z j in (o .0, wider (o .1))) (λ j. last z j)
+                (in-either (x ∷ p .nodes) i);
             all = all;
             sum = λ f d s. omega (arith, sum-snoc f (p .rows) (row y), p .sum f d s, s y c q, ap d e);
-            total = λ g o s. rw (total-snoc g (p .rows) (row y)) (lift.same (omega (arith, ap o e)) (lift.sum (p .total g o s) (s y c q)));
+            total = λ g o s. rw (total-snoc g (p .rows) (row y))
+                (lift.same (omega (arith, ap o e)) (lift.sum (p .total g o s) (s y c q)));
           }
         where
           all : (z : ℕ) → Above par t z → Above par z x ⊎ Above par z y → In z (x ∷ (p .nodes ++ (y ∷ [])))
           all z g (inl a) = in-left (y ∷ []) (p .all z g (inl a))
-          all z g (inr a) = ⊎-elim (λ s. in-right (x ∷ p .nodes) (at s)) (λ s. in-left (y ∷ []) (p .all z g (inr (rw e at (s .1))))) (above-inv a)
+          all z g (inr a) =
+              ⊎-elim (λ s. in-right (x ∷ p .nodes) (at s)) (λ s. in-left (y ∷ []) (p .all z g (inr (rw e at (s .1)))))
+              (above-inv a)
 
   -- it has a length and a weight
-  pub route-value : {long : ℕ → ℕ} {heavy : ℕ → ℤ} {t x y : ℕ} (r : Route t x y) → Value u v k long heavy x y (Sum long (r .rows)) (Total heavy (r .rows))
+  pub route-value : {long : ℕ → ℕ} {heavy : ℕ → ℤ} {t x y : ℕ} (r : Route t x y)
+      → Value u v k long heavy x y (Sum long (r .rows)) (Total heavy (r .rows))
   route-value r = record { rows = r .rows; path = (r .nodes, r .walk, r .once); length = refl; weight = refl }

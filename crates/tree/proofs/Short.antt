@@ -12,7 +12,8 @@ use Rattle.arrays.specs.Members.{In, at, past, Distinct}
 use Rattle.tree.specs.Graph.{First, Ends, Walk, stop, go}
 use Rattle.tree.specs.Path.{Sum}
 use Rattle.tree.specs.Value.{Value, Total}
-use Rattle.tree.specs.Net.{firstEnd, secondEnd, lengthOf, Net}
+use Rattle.tree.specs.Net.{firstEnd, secondEnd, lengthOf}
+use Rattle.tree.specs.work.Net.{Net}
 use Rattle.arrays.proofs.Members.{not-nil}
 use Rattle.tree.proofs.Counts.{count-below}
 
@@ -31,9 +32,16 @@ module _ {u v : ℕ → ℕ} {k n : ℕ} (fit : (r : ℕ) → r < k → (u r < n
   same-many (go h e w) = ap suc (same-many w)
 
   pub path-rows : {x y : ℕ} {rs ns : List ℕ} → x < n → Walk u v (First k) x rs ns y → Distinct (x ∷ ns) → length rs < n
-  path-rows {x} {y} {rs} {ns} b w d = omega (arith, same-many w, count-below {P = λ z. In z (x ∷ ns)} n (nodes-fit b w) (record { list = x ∷ ns; once = d; only = λ z i. i; all = λ z i. i; long = refl }))
+  path-rows {x} {y} {rs} {ns} b w d =
+      omega (
+        arith,
+        same-many w,
+        count-below {P = λ z. In z (x ∷ ns)} n (nodes-fit b w)
+            (record { list = x ∷ ns; once = d; only = λ z i. i; all = λ z i. i; long = refl }),
+      )
 
-  sum-most : (f : ℕ → ℕ) → ((r : ℕ) → r < k → f r ≤ 1000000) → {x y : ℕ} {rs ns : List ℕ} → Walk u v (First k) x rs ns y → Sum f rs ≤ 1000000 * length rs
+  sum-most : (f : ℕ → ℕ) → ((r : ℕ) → r < k → f r ≤ 1000000) → {x y : ℕ} {rs ns : List ℕ} → Walk u v (First k) x rs ns y
+      → Sum f rs ≤ 1000000 * length rs
   sum-most f m stop = omega arith
   sum-most f m (go {r} h e w) = omega (arith, m r h, sum-most f m w)
 
@@ -43,10 +51,17 @@ module _ {u v : ℕ → ℕ} {k n : ℕ} (fit : (r : ℕ) → r < k → (u r < n
   total-near f m stop = omega arith
   total-near f m (go {r} {rs = rs} h e w) = omega (arith, m r h, total-near f m w, sum-near (f r) (Total f rs))
 
-pub path-short : {s : List ℕ} {n a b l : ℕ} {heavy : ℕ → ℤ} {w : ℤ} → Net s n → a < n → Value (firstEnd s) (secondEnd s) (n - 1) (lengthOf s) heavy a b l w → l ≤ 4095000000
+pub path-short : {s : List ℕ} {n a b l : ℕ} {heavy : ℕ → ℤ} {w : ℤ} → Net s n → a < n
+    → Value (firstEnd s) (secondEnd s) (n - 1) (lengthOf s) heavy a b l w → l ≤ 4095000000
 path-short {s} {n} {a} {b} {l} t c p =
     let fit : (r : ℕ) → r < n - 1 → (firstEnd s r < n) × (secondEnd s r < n) = λ r h. (t .first r h, t .second r h) in
-    omega (arith, p .length, path-rows fit c (p .path .1) (p .path .2), sum-most fit (lengthOf s) (t .short) (p .path .1), t .few)
+    omega (
+      arith,
+      p .length,
+      path-rows fit c (p .path .1) (p .path .2),
+      sum-most fit (lengthOf s) (t .short) (p .path .1),
+      t .few,
+    )
 
 pub path-light : {s : List ℕ} {n a b l : ℕ} {heavy : ℕ → ℤ} {w : ℤ} → Net s n
     → ((r : ℕ) → r < n - 1 → natAbs (heavy r) ≤ 1000000) → a < n

@@ -1,4 +1,5 @@
--- A sweep forward over the order: each node's value from its parent's. Q x y says what is wanted of the value y at node x.
+-- A sweep forward over the order: each node's value from its parent's. Q x y says what is wanted of the value y at node
+-- x.
 use Prim.Native.Nat.{ℕ, _+_, _≤_, _<_}
 use mathlib.Core.Path.{_≡_, sym, ap, _∙_}
 use mathlib.Core.Logic.{_≢_}
@@ -7,8 +8,8 @@ use native.Mathlib.Omega.{arith}
 use native.Mathlib.Decide.{ℕ-discrete}
 use lib.ListN.{length, set, length-set}
 use lib.Seq.{getD-set-same, getD-set-other}
-use Rattle.arrays.specs.Filled.{at}
-use Rattle.tree.specs.Grown.{Grown}
+use Rattle.arrays.specs.At.{at}
+use Rattle.tree.specs.work.Grown.{Grown}
 use Rattle.tree.proofs.Grown.{par-earlier, par-fits}
 
 -- the nodes at the places below i have their values

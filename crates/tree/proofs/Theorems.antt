@@ -5,15 +5,16 @@ use mathlib.Core.Path.{_≡_, ap}
 use mathlib.Core.Logic.{_≢_, _↔_}
 use mathlib.Core.List.{List, _∷_}
 use lib.ListN.{length}
-use Rattle.arrays.specs.Filled.{at}
+use Rattle.arrays.specs.At.{at}
 use Rattle.table.specs.Header.{nodesOf}
 use Rattle.table.proofs.Accepted.{GoodTable}
 use Rattle.arrays.specs.Members.{In, Distinct}
 use Rattle.tree.specs.Graph.{First, Ends, Walk, Simple, Ring}
-use Rattle.tree.specs.Net.{firstEnd, secondEnd, Net}
-use Rattle.tree.specs.Accept.{Outcome, refusal, Begins, Accepts}
-use Rattle.tree.specs.Rooted.{Above}
-use Rattle.tree.specs.Walked.{Walked}
+use Rattle.tree.specs.Net.{firstEnd, secondEnd}
+use Rattle.tree.specs.work.Net.{Net}
+use Rattle.tree.specs.Accept.{AcceptanceOutcome, acceptanceRefusal, Begins, Accepts}
+use Rattle.tree.specs.work.Rooted.{Above}
+use Rattle.tree.specs.work.Walked.{Walked}
 use Rattle.tree.proofs.RingExactly.{forest-iff}
 use Rattle.tree.proofs.OnePath.{unique}
 use Rattle.tree.proofs.Outcomes.{by-beginning}
@@ -24,38 +25,38 @@ use Rattle.tree.proofs.NetWalk.{net-simple, climb-path}
 
 -- Demand 2. A table with good header, size and rows is refused by 11 exactly if a ring is in it.
 pub ring-exactly : (s : List ℕ) → GoodTable s
-    → ((r : ℕ) × (g : ℕ) × Accepts s (refusal 11 r g)) ↔ Ring (firstEnd s) (secondEnd s) (nodesOf s - 1)
+    → ((r : ℕ) × (g : ℕ) × Accepts s (acceptanceRefusal 11 r g)) ↔ Ring (firstEnd s) (secondEnd s) (nodesOf s - 1)
 ring-exactly s g = (refused-ring s, ring-refused s g)
 
 -- Req 03. Where it is, the row named closes a ring with rows before it, and the number given is how many rows that ring
 -- has:
-pub ring-counted : (s : List ℕ) (r g : ℕ) → Accepts s (refusal 11 r g)
+pub ring-counted : (s : List ℕ) (r g : ℕ) → Accepts s (acceptanceRefusal 11 r g)
     → (o : Ring (firstEnd s) (secondEnd s) (r + 1)) × In r (o .rs) × (length (o .rs) ≡ g)
 ring-counted = eleven.ring-counted
 
 -- every ring of rows up to that one has as many,
-pub ring-one : (s : List ℕ) (r g : ℕ) → Accepts s (refusal 11 r g) → (o : Ring (firstEnd s) (secondEnd s) (r + 1))
-    → length (o .rs) ≡ g
+pub ring-one : (s : List ℕ) (r g : ℕ) → Accepts s (acceptanceRefusal 11 r g)
+    → (o : Ring (firstEnd s) (secondEnd s) (r + 1)) → length (o .rs) ≡ g
 ring-one = eleven.ring-one
 
 -- two or more, and no more than there are rows up to that one,
-pub ring-bounds : (s : List ℕ) (r g : ℕ) → Accepts s (refusal 11 r g) → (2 ≤ g) × (g ≤ r + 1)
+pub ring-bounds : (s : List ℕ) (r g : ℕ) → Accepts s (acceptanceRefusal 11 r g) → (2 ≤ g) × (g ≤ r + 1)
 ring-bounds = eleven.ring-bounds
 
 -- and two exactly if an earlier row has the same two ends, either way round.
-pub ring-repeat : (s : List ℕ) (r g : ℕ) → Accepts s (refusal 11 r g)
+pub ring-repeat : (s : List ℕ) (r g : ℕ) → Accepts s (acceptanceRefusal 11 r g)
     → (g ≡ 2) ↔ ((q : ℕ) × (q < r) × Ends (firstEnd s) (secondEnd s) q (firstEnd s r) (secondEnd s r))
 ring-repeat = eleven.ring-repeat
 
 -- No other refusal tells of a ring;
-pub ring-alone : (s : List ℕ) (o : Outcome) → Accepts s o → o .number ≢ 11 → o .ring ≡ 0
+pub ring-alone : (s : List ℕ) (o : AcceptanceOutcome) → Accepts s o → o .number ≢ 11 → o .ring ≡ 0
 ring-alone s o p =
-    by-beginning (λ o. o .number ≢ 11 → o .ring ≡ 0) refusal s (λ k r g t. t .alone)
-    (λ o e _. ap (λ (x : Outcome). x .ring) e) p
+    by-beginning (λ o. o .number ≢ 11 → o .ring ≡ 0) acceptanceRefusal s (λ k r g t. t .alone)
+    (λ o e _. ap (λ (x : AcceptanceOutcome). x .ring) e) p
 
 -- and what acceptance refuses, every operation that begins with it refuses by the same number, row and ring.
 pub refused-alike : {A : Type 0} (refuse : ℕ → ℕ → ℕ → A) (s : List ℕ) {rest : A → Type 0} {x : A} (k r g : ℕ)
-    → Accepts s (refusal k r g) → Begins A refuse s rest x → x ≡ refuse k r g
+    → Accepts s (acceptanceRefusal k r g) → Begins A refuse s rest x → x ≡ refuse k r g
 refused-alike = begins.refused-alike
 
 -- An accepted net has no ring.

@@ -8,9 +8,10 @@ use native.Mathlib.Numerals.{add-one}
 use native.Mathlib.Decide.{ℕ-discrete}
 use lib.ListN.{length, set, length-set}
 use lib.Seq.{getD-set-same, getD-set-other}
-use Rattle.arrays.specs.Filled.{at}
+use Rattle.arrays.specs.At.{at}
 use Rattle.tree.specs.Graph.{First, Walk, stop, go, Joined, Forest}
-use Rattle.tree.specs.Work.{RowsFit, Climb, here, step, Rises, Root, FirstRing, Linked, Numbered, Union}
+use Rattle.tree.specs.work.Rows.{RowsFit}
+use Rattle.tree.specs.work.Union.{Climb, here, step, Rises, Root, FirstRing, Linked, Numbered, Union}
 use Rattle.tree.proofs.Rows.{But, End}
 use Rattle.tree.proofs.Joined.{joined-refl, joined-step, joined-trans, joined-sym, joined-mono}
 use Rattle.tree.proofs.Bridge.{Cut, walk-cut}
@@ -41,35 +42,48 @@ module _ (u v : ℕ → ℕ) where
       go-on (go h e w) n = absurd (n _ h)
 
   -- one row more joins x and y only through its ends
-  pub through : {r x y : ℕ} → Joined u v (First (suc r)) x y → Joined u v (First r) x y ⊎ ((a : ℕ) × (b : ℕ) × End u v r a × End u v r b × Joined u v (First r) x a × Joined u v (First r) b y)
+  pub through : {r x y : ℕ} → Joined u v (First (suc r)) x y
+      → Joined u v (First r) x y
+      ⊎ ((a : ℕ) × (b : ℕ) × End u v r a × End u v r b × Joined u v (First r) x a × Joined u v (First r) b y)
   through {r} w = pick (walk-cut u v r (w .2))
     where
       low : {a b : ℕ} → Joined u v (But (First (suc r)) r) a b → Joined u v (First r) a b
       low = joined-mono u v (λ s h. omega (arith, h .0, h .1))
 
-      pick : {x y : ℕ} → Cut u v (First (suc r)) r x y → Joined u v (First r) x y ⊎ ((a : ℕ) × (b : ℕ) × End u v r a × End u v r b × Joined u v (First r) x a × Joined u v (First r) b y)
+      pick : {x y : ℕ} → Cut u v (First (suc r)) r x y
+          → Joined u v (First r) x y
+          ⊎ ((a : ℕ) × (b : ℕ) × End u v r a × End u v r b × Joined u v (First r) x a × Joined u v (First r) b y)
       pick (inl t) = inl (low t)
       pick (inr c) = inr (c .0, c .1, c .2, c .3, low (c .4), low (c .5))
 
   pub joined-up : {r a b : ℕ} → Joined u v (First r) a b → Joined u v (First (suc r)) a b
   joined-up = joined-mono u v (λ s h. omega arith)
 
-pub climb-joined : {us vs : ℕ → ℕ} {rows : ℕ} {up rank : List ℕ} {r x t : ℕ} → Seen us vs rows r up rank → x < 4096 → Climb up x t → Joined us vs (First r) x t
+pub climb-joined : {us vs : ℕ → ℕ} {rows : ℕ} {up rank : List ℕ} {r x t : ℕ} → Seen us vs rows r up rank → x < 4096
+    → Climb up x t → Joined us vs (First r) x t
 climb-joined s b here = joined-refl _ _ _
-climb-joined {us} {vs} {r} s b (step {x} {y} e c) = joined-trans us vs (rw e at (s .sound x b)) (climb-joined s (rw e at (s .ranks .within x b)) c)
+climb-joined {us} {vs} {r} s b (step {x} {y} e c) =
+    joined-trans us vs (rw e at (s .sound x b)) (climb-joined s (rw e at (s .ranks .within x b)) c)
 
 module _ (us vs : ℕ → ℕ) (rows : ℕ) (up rank : List ℕ) where
-  pub seen-none : length up ≡ 4096 → length rank ≡ 4096 → ((x : ℕ) → x < 4096 → at up x ≡ x) → ((x : ℕ) → x < 4096 → at rank x ≡ 0) → Seen us vs rows 0 up rank
-  seen-none l m f g = record {
-    within = omega arith;
-    long = (l, m);
-    ranks = record { within = λ x h. omega (arith, f x h); rises = λ x h n. absurd (n (f x h)); most = λ x h. omega (arith, g x h) };
-    sound = λ x h. rw (f x h) (joined-refl _ _ x);
-    whole = λ x y h k e d j. alone _ _ (λ r q. omega arith) j;
-    forest = λ r h. absurd (omega arith);
-  }
+  pub seen-none : length up ≡ 4096 → length rank ≡ 4096 → ((x : ℕ) → x < 4096 → at up x ≡ x)
+      → ((x : ℕ) → x < 4096 → at rank x ≡ 0) → Seen us vs rows 0 up rank
+  seen-none l m f g =
+      record {
+        within = omega arith;
+        long = (l, m);
+        ranks = record {
+          within = λ x h. omega (arith, f x h);
+          rises = λ x h n. absurd (n (f x h));
+          most = λ x h. omega (arith, g x h);
+        };
+        sound = λ x h. rw (f x h) (joined-refl _ _ x);
+        whole = λ x y h k e d j. alone _ _ (λ r q. omega arith) j;
+        forest = λ r h. absurd (omega arith);
+      }
 
-  module _ (r p q : ℕ) (s : Seen us vs rows r up rank) (fit : RowsFit us vs rows 4096) (b : r < rows) (f : Root up (us r) p) (g : Root up (vs r) q) where
+  module _ (r p q : ℕ) (s : Seen us vs rows r up rank) (fit : RowsFit us vs rows 4096) (b : r < rows)
+      (f : Root up (us r) p) (g : Root up (vs r) q) where
     abbrev J : ℕ → ℕ → Type 0
     J = Joined us vs (First r)
 
@@ -80,13 +94,21 @@ module _ (us vs : ℕ → ℕ) (rows : ℕ) (up rank : List ℕ) where
     jv = climb-joined s (fit .second r b) (g .climbs)
 
     pub seen-ring : p ≡ q → FirstRing us vs rows r
-    seen-ring e = record { within = s .within; forest = s .forest; closes = λ h. joined-trans _ _ ju (rw e (joined-sym _ _ jv)) }
+    seen-ring e =
+        record { within = s .within; forest = s .forest; closes = λ h. joined-trans _ _ ju (rw e (joined-sym _ _ jv)) }
 
     pub apart : p ≢ q → ¬ J (us r) (vs r)
-    apart n j = n (s .whole p q (f .within) (g .within) (f .root) (g .root) (joined-trans _ _ (joined-sym _ _ ju) (joined-trans _ _ j jv)))
+    apart n j =
+        n
+        (s .whole p q (f .within) (g .within) (f .root) (g .root)
+        (joined-trans _ _ (joined-sym _ _ ju) (joined-trans _ _ j jv)))
 
-module _ (us vs : ℕ → ℕ) (rows : ℕ) (up rank : List ℕ) (r a b : ℕ) (s : Seen us vs rows r up rank) (in-a : a < 4096) (in-b : b < 4096) (n : a ≢ b) (ra : at up a ≡ a) (rb : at up b ≡ b) where
-  pub seen-link : (up₂ rank₂ : List ℕ) → r < rows → Linked a b up rank up₂ rank₂ → Joined us vs (First (suc r)) a b → ¬ Joined us vs (First r) (us r) (vs r) → ((e : ℕ) → End us vs r e → Joined us vs (First r) e a ⊎ Joined us vs (First r) e b) → Seen us vs rows (r + 1) up₂ rank₂
+module _ (us vs : ℕ → ℕ) (rows : ℕ) (up rank : List ℕ) (r a b : ℕ) (s : Seen us vs rows r up rank) (in-a : a < 4096)
+    (in-b : b < 4096) (n : a ≢ b) (ra : at up a ≡ a) (rb : at up b ≡ b) where
+  pub seen-link : (up₂ rank₂ : List ℕ) → r < rows → Linked a b up rank up₂ rank₂ → Joined us vs (First (suc r)) a b
+      → ¬ Joined us vs (First r) (us r) (vs r)
+      → ((e : ℕ) → End us vs r e → Joined us vs (First r) e a ⊎ Joined us vs (First r) e b)
+      → Seen us vs rows (r + 1) up₂ rank₂
   seen-link up₂ rank₂ lt l j apart ends = rw add-one (record {
     within = lt;
     long = (ap length (l .put) ∙ length-set up a b ∙ s .long .0, l .long ∙ s .long .1);
@@ -126,7 +148,8 @@ module _ (us vs : ℕ → ℕ) (rows : ℕ) (up rank : List ℕ) (r a b : ℕ) (
       pick-most : (x : ℕ) → x < 4096 → Dec (x ≡ b) → at rank₂ x ≤ suc r
       pick-most x h (yes e) = rw e (up-to (l .most))
         where
-          up-to : (at rank₂ b ≡ at rank b) ⊎ ((at rank₂ b ≡ at rank b + 1) × (at rank a ≡ at rank b)) → at rank₂ b ≤ suc r
+          up-to : (at rank₂ b ≡ at rank b) ⊎ ((at rank₂ b ≡ at rank b + 1) × (at rank a ≡ at rank b))
+              → at rank₂ b ≤ suc r
           up-to (inl q) = omega (arith, s .ranks .most b in-b)
           up-to (inr q) = omega (arith, q .0, s .ranks .most b in-b)
       pick-most x h (no m) = rw (l .same x m) (omega (arith, s .ranks .most x h))
@@ -146,13 +169,24 @@ module _ (us vs : ℕ → ℕ) (rows : ℕ) (up rank : List ℕ) (r a b : ℕ) (
           pick (no m) = (sym (lo x m) ∙ e, m)
 
       -- a root other than a that is joined to an end of the row is b
-      one : (x : ℕ) → x < 4096 → Plain x → (e : ℕ) → Joined us vs (First r) x e → Joined us vs (First r) e a ⊎ Joined us vs (First r) e b → x ≡ b
+      one : (x : ℕ) → x < 4096 → Plain x → (e : ℕ) → Joined us vs (First r) x e
+          → Joined us vs (First r) e a ⊎ Joined us vs (First r) e b → x ≡ b
       one x h p e j (inl k) = absurd (p .1 (s .whole x a h in-a (p .0) ra (joined-trans _ _ j k)))
       one x h p e j (inr k) = s .whole x b h in-b (p .0) rb (joined-trans _ _ j k)
 
-      both : (x y : ℕ) → x < 4096 → y < 4096 → Plain x → Plain y → Joined us vs (First r) x y ⊎ ((e : ℕ) × (d : ℕ) × End us vs r e × End us vs r d × Joined us vs (First r) x e × Joined us vs (First r) d y) → x ≡ y
+      both : (x y : ℕ) → x < 4096 → y < 4096 → Plain x → Plain y
+          → Joined us vs (First r) x y
+          ⊎ ((e : ℕ)
+          × (d : ℕ)
+          × End us vs r e
+          × End us vs r d
+          × Joined us vs (First r) x e
+          × Joined us vs (First r) d y)
+          → x ≡ y
       both x y hx hy px py (inl w) = s .whole x y hx hy (px .0) (py .0) w
-      both x y hx hy px py (inr c) = one x hx px (c .0) (c .4) (ends (c .0) (c .2)) ∙ sym (one y hy py (c .1) (joined-sym _ _ (c .5)) (ends (c .1) (c .3)))
+      both x y hx hy px py (inr c) =
+          one x hx px (c .0) (c .4) (ends (c .0) (c .2))
+          ∙ sym (one y hy py (c .1) (joined-sym _ _ (c .5)) (ends (c .1) (c .3)))
 
       pick-forest : (x : ℕ) → x < suc r → Dec (x ≡ r) → ¬ Joined us vs (First x) (us x) (vs x)
       pick-forest x h (yes e) = rw e apart
@@ -162,7 +196,8 @@ module _ (a b : ℕ) (up rank : List ℕ) where
   pub put-low : at rank a < at rank b → Linked a b up rank (set up a b) rank
   put-low h = record { put = refl; long = refl; same = λ x m. refl; above = h; grows = omega arith; most = inl refl }
 
-  pub put-equal : b < length rank → a ≢ b → at rank a ≡ at rank b → Linked a b up rank (set up a b) (set rank b (at rank b + 1))
+  pub put-equal : b < length rank → a ≢ b → at rank a ≡ at rank b
+      → Linked a b up rank (set up a b) (set rank b (at rank b + 1))
   put-equal h n e = record {
     put = refl;
     long = length-set rank b _;
@@ -175,12 +210,15 @@ module _ (a b : ℕ) (up rank : List ℕ) where
       now : at (set rank b (at rank b + 1)) b ≡ at rank b + 1
       now = getD-set-same rank b _ 0 h
 
-module _ (us vs : ℕ → ℕ) (rows : ℕ) (up rank : List ℕ) (r p q : ℕ) (s : Seen us vs rows r up rank) (fit : RowsFit us vs rows 4096) (b : r < rows) (f : Root up (us r) p) (g : Root up (vs r) q) (n : p ≢ q) where
+module _ (us vs : ℕ → ℕ) (rows : ℕ) (up rank : List ℕ) (r p q : ℕ) (s : Seen us vs rows r up rank)
+    (fit : RowsFit us vs rows 4096) (b : r < rows) (f : Root up (us r) p) (g : Root up (vs r) q) (n : p ≢ q) where
   abbrev J₁ : ℕ → ℕ → Type 0
   J₁ = Joined us vs (First r)
 
   over : Joined us vs (First (suc r)) p q
-  over = joined-trans _ _ (joined-up _ _ (joined-sym _ _ (ju us vs rows up rank r p q s fit b f g))) (joined-step _ _ (omega arith) (inl (refl, refl)) (joined-up _ _ (jv us vs rows up rank r p q s fit b f g)))
+  over =
+      joined-trans _ _ (joined-up _ _ (joined-sym _ _ (ju us vs rows up rank r p q s fit b f g)))
+      (joined-step _ _ (omega arith) (inl (refl, refl)) (joined-up _ _ (jv us vs rows up rank r p q s fit b f g)))
 
   ends₁ : (e : ℕ) → End us vs r e → J₁ e p ⊎ J₁ e q
   ends₁ e (inl h) = inl (rw h at (ju us vs rows up rank r p q s fit b f g))
@@ -191,8 +229,12 @@ module _ (us vs : ℕ → ℕ) (rows : ℕ) (up rank : List ℕ) (r p q : ℕ) (
   swap (inr x) = inl x
 
   pub seen-more : (up₂ rank₂ : List ℕ) → Union p q up rank up₂ rank₂ → Seen us vs rows (r + 1) up₂ rank₂
-  seen-more up₂ rank₂ (inl l) = seen-link us vs rows up rank r p q s (f .within) (g .within) n (f .root) (g .root) up₂ rank₂ b l over (apart us vs rows up rank r p q s fit b f g n) ends₁
-  seen-more up₂ rank₂ (inr l) = seen-link us vs rows up rank r q p s (g .within) (f .within) (λ e. n (sym e)) (g .root) (f .root) up₂ rank₂ b l (joined-sym _ _ over) (apart us vs rows up rank r p q s fit b f g n) (λ e h. swap (ends₁ e h))
+  seen-more up₂ rank₂ (inl l) =
+      seen-link us vs rows up rank r p q s (f .within) (g .within) n (f .root) (g .root) up₂ rank₂ b l over
+      (apart us vs rows up rank r p q s fit b f g n) ends₁
+  seen-more up₂ rank₂ (inr l) =
+      seen-link us vs rows up rank r q p s (g .within) (f .within) (λ e. n (sym e)) (g .root) (f .root) up₂ rank₂ b l
+      (joined-sym _ _ over) (apart us vs rows up rank r p q s fit b f g n) (λ e h. swap (ends₁ e h))
 
 -- numbering the places, from the front
 pub numbered-none : (l : List ℕ) → length l ≡ 4096 → Numbered 0 l

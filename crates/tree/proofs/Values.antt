@@ -1,4 +1,5 @@
--- The length and the weight of a path: one of each; a step further from the start adds the branch to both, a step nearer takes it off both; they depend on nothing but what the rows have.
+-- The length and the weight of a path: one of each; a step further from the start adds the branch to both, a step
+-- nearer takes it off both; they depend on nothing but what the rows have.
 use Prim.Native.Nat.{ℕ, _+_, _<_}
 use mathlib.Core.Path.{_≡_, refl, sym, ap, _∙_}
 use mathlib.Core.Logic.{_≢_}
@@ -6,7 +7,7 @@ use mathlib.Core.List.{List, [], _∷_, _++_}
 use lib.IntN.{ℤ, pos, _+ℤ_, +ℤ-assoc, +ℤ-idl, +ℤ-idr}
 use Rattle.tree.specs.Graph.{stop, Forest}
 use Rattle.tree.specs.Path.{Sum}
-use Rattle.tree.specs.Rooted.{Above, Rooted}
+use Rattle.tree.specs.work.Rooted.{Above, Rooted}
 use Rattle.tree.specs.Value.{Total, Value}
 use Rattle.arrays.proofs.Members.{not-nil}
 use Rattle.tree.proofs.OnePath.{unique}
@@ -30,7 +31,8 @@ module _ (u v : ℕ → ℕ) {k : ℕ} {long : ℕ → ℕ} {heavy : ℕ → ℤ
   value-none a = record { rows = []; path = ([], stop, (not-nil, tt)); length = refl; weight = refl }
 
   -- one path, one length and one weight
-  module _ (F : Forest u v k) {a b l l₁ : ℕ} {w w₁ : ℤ} (p : Value u v k long heavy a b l w) (q : Value u v k long heavy a b l₁ w₁) where
+  module _ (F : Forest u v k) {a b l l₁ : ℕ} {w w₁ : ℤ} (p : Value u v k long heavy a b l w)
+      (q : Value u v k long heavy a b l₁ w₁) where
     rows-only : p .rows ≡ q .rows
     rows-only = unique u v F (p .path .1) (q .path .1) (p .path .2) (q .path .2) .0
 
@@ -40,9 +42,11 @@ module _ (u v : ℕ → ℕ) {k : ℕ} {long : ℕ → ℕ} {heavy : ℕ → ℤ
     pub weight-only : w ≡ w₁
     weight-only = sym (p .weight) ∙ ap (Total heavy) rows-only ∙ q .weight
 
-  module _ {n : ℕ} {par row place : ℕ → ℕ} (T : Rooted u v k n par row place) (t : ℕ) (bt : t < n) (zt : t ≢ 0) {x : ℕ} where
+  module _ {n : ℕ} {par row place : ℕ → ℕ} (T : Rooted u v k n par row place) (t : ℕ) (bt : t < n) (zt : t ≢ 0)
+      {x : ℕ} where
     -- away from x: from the parent down to t where t is not above x, from t up to the parent where it is
-    pub value-down : {l : ℕ} {w : ℤ} → ¬ Above par t x → Value u v k long heavy x (par t) l w → Value u v k long heavy x t (l + long (row t)) (w +ℤ heavy (row t))
+    pub value-down : {l : ℕ} {w : ℤ} → ¬ Above par t x → Value u v k long heavy x (par t) l w
+        → Value u v k long heavy x t (l + long (row t)) (w +ℤ heavy (row t))
     value-down m p = record {
       rows = p .rows ++ (row t ∷ []);
       path = path-down u v T t bt zt m (p .path);
@@ -50,7 +54,8 @@ module _ (u v : ℕ → ℕ) {k : ℕ} {long : ℕ → ℕ} {heavy : ℕ → ℤ
       weight = rw (← p .weight) (total-snoc heavy (p .rows) (row t));
     }
 
-    pub value-up : {l : ℕ} {w : ℤ} → Above par t x → Value u v k long heavy x t l w → Value u v k long heavy x (par t) (l + long (row t)) (w +ℤ heavy (row t))
+    pub value-up : {l : ℕ} {w : ℤ} → Above par t x → Value u v k long heavy x t l w
+        → Value u v k long heavy x (par t) (l + long (row t)) (w +ℤ heavy (row t))
     value-up h p = record {
       rows = p .rows ++ (row t ∷ []);
       path = path-up u v T t bt zt h (p .path);
@@ -63,6 +68,7 @@ module _ (u v : ℕ → ℕ) {k : ℕ} {long : ℕ → ℕ} {heavy : ℕ → ℤ
         → (m : ℕ) × (z : ℤ) × Value u v k long heavy x t m z × (m + long (row t) ≡ l) × (z +ℤ heavy (row t) ≡ w)
     value-nearer b h p =
         let s = simple u v (T .all x t b bt) in
-        let near : Value u v k long heavy x t (Sum long (s .0)) (Total heavy (s .0)) = record { rows = s .0; path = (s .1, s .2, s .3); length = refl; weight = refl } in
+        let near : Value u v k long heavy x t (Sum long (s .0)) (Total heavy (s .0)) =
+        record { rows = s .0; path = (s .1, s .2, s .3); length = refl; weight = refl } in
         let far = value-up h near in
         (Sum long (s .0), Total heavy (s .0), near, length-only (T .forest) far p, weight-only (T .forest) far p)

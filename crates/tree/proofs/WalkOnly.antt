@@ -1,5 +1,5 @@
--- The walk's promise allows one outcome, where the rows are a forest: parents and half-branches are the tree's own, and the order is fixed since parents' places never fall
--- along it and under one parent the half-branches fall.
+-- The walk's promise allows one outcome, where the rows are a forest: parents and half-branches are the tree's own, and
+-- the order is fixed since parents' places never fall along it and under one parent the half-branches fall.
 use Prim.Native.Nat.{ℕ, zero, suc, _/_, _≤_, _<_}
 use mathlib.Core.Path.{_≡_, refl, sym, ap, _∙_}
 use mathlib.Core.Logic.{_⊎_, inl, inr, _≢_}
@@ -7,9 +7,9 @@ use mathlib.Core.List.{List}
 use native.Mathlib.Omega.{arith}
 use native.Mathlib.Decide.{ℕ-discrete, decLt}
 use lib.Seq.{ext-getD}
-use Rattle.arrays.specs.Filled.{at}
+use Rattle.arrays.specs.At.{at}
 use Rattle.tree.specs.Graph.{First, Ends, Joined, Forest}
-use Rattle.tree.specs.Walked.{Reached, High, Walked}
+use Rattle.tree.specs.work.Walked.{Reached, High, Walked}
 use Rattle.tree.proofs.Rows.{But, End, Closes, ends-flip, ends-one, other}
 use Rattle.tree.proofs.Joined.{joined-refl, joined-step, joined-trans, joined-sym}
 use Rattle.tree.proofs.Bridge.{detour}
@@ -26,19 +26,29 @@ module _ (us vs : ℕ → ℕ) (rows : ℕ) where
     row-fits i z b = omega (arith, w .child i z b .fits)
 
     -- the way from 0 to place i uses no row of a node that is not at a place up to i
-    climb-avoid : (r v : ℕ) → End us vs r v → (k i : ℕ) → i < k → i < m → ((j : ℕ) → j ≤ i → at order j ≢ v) → Joined us vs (But (First rows) r) 0 (at order i)
+    climb-avoid : (r v : ℕ) → End us vs r v → (k i : ℕ) → i < k → i < m → ((j : ℕ) → j ≤ i → at order j ≢ v)
+        → Joined us vs (But (First rows) r) 0 (at order i)
     climb-avoid r v x zero i l b n = absurd (omega arith)
     climb-avoid r v x (suc k) i l b n = pick (ℕ-discrete i 0) (climb-avoid r v x k)
       where
-        pick : Dec (i ≡ 0) → ((i : ℕ) → i < k → i < m → ((j : ℕ) → j ≤ i → at order j ≢ v) → Joined us vs (But (First rows) r) 0 (at order i)) → Joined us vs (But (First rows) r) 0 (at order i)
+        pick : Dec (i ≡ 0)
+            → ((i : ℕ) → i < k → i < m → ((j : ℕ) → j ≤ i → at order j ≢ v)
+            → Joined us vs (But (First rows) r) 0 (at order i))
+            → Joined us vs (But (First rows) r) 0 (at order i)
         pick (yes e) ih = rw (e, w .root) (joined-refl _ _ 0)
         pick (no d) ih =
             let z : 0 < i = omega arith in
             let t = w .above i z b in
-            let other-row : at half (at order i) / 2 ≢ r = λ q. miss (High parent order place i) (t .0) (t .1) (ends-one us vs (row-ends i z b) (rw q x)) in
-            joined-trans _ _ (rw (t .1) at (ih (High parent order place i) (omega (arith, t .0)) (omega (arith, t .0)) (λ j h. n j (omega (arith, t .0))))) (joined-step _ _ (row-fits i z b, other-row) (row-ends i z b) (joined-refl _ _ _))
+            let other-row : at half (at order i) / 2 ≢ r = λ q. miss (High parent order place i) (t .0) (t .1)
+            (ends-one us vs (row-ends i z b) (rw q x)) in
+            joined-trans _ _
+            (rw (t .1)
+            at (ih (High parent order place i) (omega (arith, t .0)) (omega (arith, t .0))
+            (λ j h. n j (omega (arith, t .0)))))
+            (joined-step _ _ (row-fits i z b, other-row) (row-ends i z b) (joined-refl _ _ _))
           where
-            miss : (j : ℕ) → j < i → at order j ≡ at parent (at order i) → (at parent (at order i) ≡ v) ⊎ (at order i ≡ v) → ⊥
+            miss : (j : ℕ) → j < i → at order j ≡ at parent (at order i)
+                → (at parent (at order i) ≡ v) ⊎ (at order i ≡ v) → ⊥
             miss j h q (inl f) = n j (omega arith) (q ∙ f)
             miss j h q (inr f) = n i (omega arith) f
 
@@ -46,8 +56,10 @@ module _ (us vs : ℕ → ℕ) (rows : ℕ) where
     earlier : (i j : ℕ) → i < m → j < i → at order j ≢ at order i
     earlier i j b h q = omega (arith, w .back i b, w .back j (omega arith), ap (at place) q)
 
-  module _ (F : Forest us vs rows) {m m′ : ℕ} {parent half order place parent′ half′ order′ place′ : List ℕ} (w : Walked us vs rows m parent half order place) (w′ : Walked us vs rows m′ parent′ half′ order′ place′) where
-    module _ (v i i′ : ℕ) (z : 0 < i) (b : i < m) (e : at order i ≡ v) (z′ : 0 < i′) (b′ : i′ < m′) (e′ : at order′ i′ ≡ v) where
+  module _ (F : Forest us vs rows) {m m′ : ℕ} {parent half order place parent′ half′ order′ place′ : List ℕ}
+      (w : Walked us vs rows m parent half order place) (w′ : Walked us vs rows m′ parent′ half′ order′ place′) where
+    module _ (v i i′ : ℕ) (z : 0 < i) (b : i < m) (e : at order i ≡ v) (z′ : 0 < i′) (b′ : i′ < m′)
+        (e′ : at order′ i′ ≡ v) where
       same-row : at half v / 2 ≡ at half′ v / 2
       same-row = pick (ℕ-discrete (at half v / 2) (at half′ v / 2))
         where
@@ -70,12 +82,17 @@ module _ (us vs : ℕ → ℕ) (rows : ℕ) where
           up : B 0 (at parent v)
           up =
               let t = w .above i z b in
-              rw (t .1 ∙ ap (at parent) e) at (climb-avoid w (at half v / 2) v end (suc (High parent order place i)) (High parent order place i) (omega arith) (omega (arith, t .0)) (λ j h q. earlier w i j b (omega (arith, t .0)) (q ∙ sym e)))
+              rw (t .1 ∙ ap (at parent) e)
+              at (climb-avoid w (at half v / 2) v end (suc (High parent order place i)) (High parent order place i)
+              (omega arith) (omega (arith, t .0)) (λ j h q. earlier w i j b (omega (arith, t .0)) (q ∙ sym e)))
 
           up′ : B 0 (at parent′ v)
           up′ =
               let t = w′ .above i′ z′ b′ in
-              rw (t .1 ∙ ap (at parent′) e′) at (climb-avoid w′ (at half v / 2) v end (suc (High parent′ order′ place′ i′)) (High parent′ order′ place′ i′) (omega arith) (omega (arith, t .0)) (λ j h q. earlier w′ i′ j b′ (omega (arith, t .0)) (q ∙ sym e′)))
+              rw (t .1 ∙ ap (at parent′) e′)
+              at (climb-avoid w′ (at half v / 2) v end (suc (High parent′ order′ place′ i′))
+              (High parent′ order′ place′ i′) (omega arith) (omega (arith, t .0))
+              (λ j h q. earlier w′ i′ j b′ (omega (arith, t .0)) (q ∙ sym e′)))
 
           fits : at half v / 2 < rows
           fits = rw e at (row-fits w i z b)
@@ -86,7 +103,9 @@ module _ (us vs : ℕ → ℕ) (rows : ℕ) where
           pick : Dec (at half v / 2 ≡ at half′ v / 2) → at half v / 2 ≡ at half′ v / 2
           pick (yes q) = q
           pick (no n) =
-              let o : Closes us vs rows = detour us vs fits r (joined-step us vs (fits′, λ q. n (sym q)) (ends-flip us vs r′) (joined-trans us vs (joined-sym us vs up′) up)) in
+              let o : Closes us vs rows = detour us vs fits r
+              (joined-step us vs (fits′, λ q. n (sym q)) (ends-flip us vs r′)
+              (joined-trans us vs (joined-sym us vs up′) up)) in
               absurd (F (o .0) (o .1) (o .2))
 
       pub same-parent : at parent v ≡ at parent′ v
@@ -108,7 +127,10 @@ module _ (us vs : ℕ → ℕ) (rows : ℕ) where
           pick (yes q) = q
           pick (no n) =
               let t = w′ .above i′ z′ b′ in
-              absurd (earlier w′ i′ (High parent′ order′ place′ i′) b′ (t .0) (t .1 ∙ ap (at parent′) e′ ∙ sym (c′ .leaves) ∙ swap-half us vs (at half v) (at half′ v) same-row n ∙ c .leads ∙ sym e′))
+              absurd
+              (earlier w′ i′ (High parent′ order′ place′ i′) b′ (t .0)
+              (t .1 ∙ ap (at parent′) e′ ∙ sym (c′ .leaves) ∙ swap-half us vs (at half v) (at half′ v) same-row n
+              ∙ c .leads ∙ sym e′))
 
     -- the orders agree at i if they agree below it
     same-at : (i : ℕ) → i < m → i < m′ → ((j : ℕ) → j < i → at order j ≡ at order′ j) → at order i ≡ at order′ i
@@ -129,8 +151,12 @@ module _ (us vs : ℕ → ℕ) (rows : ℕ) where
             let f = w .falls i (at place (at order′ i)) z lt (t .0) in
             let g = w′ .falls i (at place′ (at order i)) z ls (s .0) in
             -- the two parents are at the same places in both orders
-            let ja : High parent′ order′ place′ (at place′ (at order i)) ≡ High parent order place i = ap (λ v. at place′ (at parent′ v)) (s .1) ∙ ap (at place′) (sym pa ∙ sym (x .1) ∙ ih _ (x .0)) ∙ w′ .back _ (omega (arith, x .0)) in
-            let jb : High parent order place (at place (at order′ i)) ≡ High parent′ order′ place′ i = ap (λ v. at place (at parent v)) (t .1) ∙ ap (at place) (pb ∙ sym (y .1) ∙ sym (ih _ (y .0))) ∙ w .back _ (omega (arith, y .0)) in
+            let ja : High parent′ order′ place′ (at place′ (at order i)) ≡ High parent order place i = ap
+            (λ v. at place′ (at parent′ v)) (s .1) ∙ ap (at place′) (sym pa ∙ sym (x .1) ∙ ih _ (x .0)) ∙ w′ .back _
+            (omega (arith, x .0)) in
+            let jb : High parent order place (at place (at order′ i)) ≡ High parent′ order′ place′ i = ap
+            (λ v. at place (at parent v)) (t .1) ∙ ap (at place) (pb ∙ sym (y .1) ∙ sym (ih _ (y .0))) ∙ w .back _
+            (omega (arith, y .0)) in
             let q : High parent order place i ≡ High parent′ order′ place′ i = omega (arith, f .0, g .0, ja, jb) in
             omega (arith, f .1 (q ∙ sym jb), g .1 (sym q ∙ sym ja), ha, hb, ap (at half) (t .1), ap (at half′) (s .1))
           where
@@ -169,10 +195,17 @@ module _ (us vs : ℕ → ℕ) (rows : ℕ) where
         pick (no n) = omega arith
         pick (yes l) =
             let t = w .listed (at order′ m) (w′ .within m l) (w′ .joined m l) in
-            absurd (earlier w′ m (at place (at order′ m)) l (t .0) (sym (same-below (suc (at place (at order′ m))) (at place (at order′ m)) (omega arith) (t .0) (omega (arith, t .0))) ∙ t .1))
+            absurd
+            (earlier w′ m (at place (at order′ m)) l (t .0)
+            (sym
+            (same-below (suc (at place (at order′ m))) (at place (at order′ m)) (omega arith) (t .0)
+            (omega (arith, t .0)))
+            ∙ t .1))
 
 -- The theorem
-module _ (us vs : ℕ → ℕ) (rows : ℕ) (F : Forest us vs rows) {m m′ : ℕ} {parent half order place parent′ half′ order′ place′ : List ℕ} (w : Walked us vs rows m parent half order place) (w′ : Walked us vs rows m′ parent′ half′ order′ place′) where
+module _ (us vs : ℕ → ℕ) (rows : ℕ) (F : Forest us vs rows) {m m′ : ℕ}
+    {parent half order place parent′ half′ order′ place′ : List ℕ} (w : Walked us vs rows m parent half order place)
+    (w′ : Walked us vs rows m′ parent′ half′ order′ place′) where
   count-only : m ≡ m′
   count-only = pick (decLt m m′)
     where
@@ -186,8 +219,12 @@ module _ (us vs : ℕ → ℕ) (rows : ℕ) (F : Forest us vs rows) {m m′ : �
   node-only : (v : ℕ) → v < 4096 → (at parent v ≡ at parent′ v) × (at half v ≡ at half′ v) × (at place v ≡ at place′ v)
   node-only v l = pick (joined? us vs rows 0 v)
     where
-      pick : Dec (Joined us vs (First rows) 0 v) → (at parent v ≡ at parent′ v) × (at half v ≡ at half′ v) × (at place v ≡ at place′ v)
-      pick (no n) = let s = w .others v l n in let t = w′ .others v l n in (s .0 ∙ sym (t .0), s .1 ∙ sym (t .1), s .2 ∙ sym (t .2))
+      pick : Dec (Joined us vs (First rows) 0 v)
+          → (at parent v ≡ at parent′ v) × (at half v ≡ at half′ v) × (at place v ≡ at place′ v)
+      pick (no n) =
+          let s = w .others v l n in
+          let t = w′ .others v l n in
+          (s .0 ∙ sym (t .0), s .1 ∙ sym (t .1), s .2 ∙ sym (t .2))
       pick (yes j) = root (ℕ-discrete v 0) (ℕ-discrete (at place v) 0)
         where
           s : (at place v < m) × (at order (at place v) ≡ v)
@@ -197,15 +234,22 @@ module _ (us vs : ℕ → ℕ) (rows : ℕ) (F : Forest us vs rows) {m m′ : �
           t = w′ .listed v l j
 
           here : at place v ≡ at place′ v
-          here = sym (ap (at place′) (sym (s .1) ∙ at-only (at place v) (s .0)) ∙ w′ .back (at place v) (omega (arith, s .0, count-only)))
+          here =
+              sym
+              (ap (at place′) (sym (s .1) ∙ at-only (at place v) (s .0))
+              ∙ w′ .back (at place v) (omega (arith, s .0, count-only)))
 
-          root : Dec (v ≡ 0) → Dec (at place v ≡ 0) → (at parent v ≡ at parent′ v) × (at half v ≡ at half′ v) × (at place v ≡ at place′ v)
+          root : Dec (v ≡ 0) → Dec (at place v ≡ 0)
+              → (at parent v ≡ at parent′ v) × (at half v ≡ at half′ v) × (at place v ≡ at place′ v)
           root (yes e) d = (rw e (w .top .0 ∙ sym (w′ .top .0)), rw e (w .top .1 ∙ sym (w′ .top .1)), here)
           root (no n) (yes d) = absurd (n (sym (s .1) ∙ rw d (w .root)))
           root (no n) (no d) =
               let z : 0 < at place v = omega arith in
-              let z′ : 0 < at place′ v = omega (arith, here) in
-              (same-parent us vs rows F w w′ v (at place v) (at place′ v) z (s .0) (s .1) z′ (t .0) (t .1), same-half us vs rows F w w′ v (at place v) (at place′ v) z (s .0) (s .1) z′ (t .0) (t .1), here)
+              let z′ : 0 < at place′ v = omega (arith, here) in (
+                same-parent us vs rows F w w′ v (at place v) (at place′ v) z (s .0) (s .1) z′ (t .0) (t .1),
+                same-half us vs rows F w w′ v (at place v) (at place′ v) z (s .0) (s .1) z′ (t .0) (t .1),
+                here,
+              )
 
   place-only : (i : ℕ) → i < 4096 → at order i ≡ at order′ i
   place-only i b = pick (decLt i m)

@@ -5,10 +5,11 @@ use mathlib.Core.Logic.{_≢_}
 use mathlib.Core.List.{List}
 use native.Mathlib.Omega.{arith}
 use native.Mathlib.Decide.{ℕ-discrete}
-use Rattle.arrays.specs.Filled.{at}
+use Rattle.arrays.specs.At.{at}
 use Rattle.tree.specs.Graph.{First, Walk, stop, go, Joined}
-use Rattle.tree.specs.Walked.{High, WalkedFrom}
-use Rattle.tree.specs.Work.{RowsFit, Queue, Outer}
+use Rattle.tree.specs.work.Walked.{High, WalkedFrom}
+use Rattle.tree.specs.work.Rows.{RowsFit}
+use Rattle.tree.specs.work.Queue.{Queue, Outer}
 use Rattle.tree.proofs.Joined.{joined-refl, joined-step, joined-trans}
 use Rattle.tree.proofs.Chains.{from-fits, flip-fit, half-ends, ends-half}
 

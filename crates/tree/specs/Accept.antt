@@ -23,7 +23,7 @@ abbrev pub Begins : (A : Type 0) → (ℕ → ℕ → ℕ → A) → List ℕ �
 Begins A refuse s rest = Tested A (λ k r. refuse k r 0) s (Rings A refuse s (nodesOf s) rest)
 
 -- acceptance: number, row, ring, n and B
-pub record Outcome : Type 0 where
+pub record AcceptanceOutcome : Type 0 where
   pub number : ℕ
   pub row : ℕ
   pub ring : ℕ
@@ -31,16 +31,16 @@ pub record Outcome : Type 0 where
   pub bound : ℕ
 
 -- a refusal: number, row and ring, zeros elsewhere
-abbrev pub refusal : ℕ → ℕ → ℕ → Outcome
-refusal k r g = record { number = k; row = r; ring = g; nodes = 0; bound = 0 }
+abbrev pub acceptanceRefusal : ℕ → ℕ → ℕ → AcceptanceOutcome
+acceptanceRefusal k r g = record { number = k; row = r; ring = g; nodes = 0; bound = 0 }
 
 -- where nothing is refused, number, row and ring are 0
-abbrev pub found : ℕ → ℕ → Outcome
-found n b = record { number = 0; row = 0; ring = 0; nodes = n; bound = b }
+abbrev pub netAccepted : ℕ → ℕ → AcceptanceOutcome
+netAccepted n b = record { number = 0; row = 0; ring = 0; nodes = n; bound = b }
 
-abbrev pub outcome : Acceptance → Outcome
-outcome (Accepted n b) = found n b
-outcome (Refused w) = refusal (w .number) (w .row) (w .ring)
+abbrev pub acceptanceOutcome : Acceptance → AcceptanceOutcome
+acceptanceOutcome (Accepted n b) = netAccepted n b
+acceptanceOutcome (Refused w) = acceptanceRefusal (w .number) (w .row) (w .ring)
 
-abbrev pub Accepts : List ℕ → Outcome → Type 0
-Accepts s = Begins Outcome refusal s (λ x. x ≡ found (nodesOf s) (boundOf s))
+abbrev pub Accepts : List ℕ → AcceptanceOutcome → Type 0
+Accepts s = Begins AcceptanceOutcome acceptanceRefusal s (λ x. x ≡ netAccepted (nodesOf s) (boundOf s))

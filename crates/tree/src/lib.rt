@@ -1,17 +1,25 @@
 // What a net is: acceptance by refusals 1 to 12, and the walk from the root.
-mod common;
 mod ends;
 mod reach;
 mod ring;
 mod round;
+mod two_climbs;
 
-pub use common::meet;
+pub use two_climbs::meet;
 ghost use mathlib.Core.Path.{_≡_};
 ghost use Prim.Native.Nat.{_-_};
-ghost use Rattle.tree.specs.Net.{firstEnd, secondEnd, Net};
-ghost use Rattle.tree.specs.Accept.{Outcome, refusal, found, outcome, Rings, Accepts};
-ghost use Rattle.tree.specs.Walked.{Walked};
-ghost use Rattle.tree.specs.Work.{Fitting};
+ghost use Rattle.tree.specs.Net.{firstEnd, secondEnd};
+ghost use Rattle.tree.specs.work.Net.{Net};
+ghost use Rattle.tree.specs.Accept.{
+  AcceptanceOutcome,
+  acceptanceRefusal,
+  netAccepted,
+  acceptanceOutcome,
+  Rings,
+  Accepts,
+};
+ghost use Rattle.tree.specs.work.Walked.{Walked};
+ghost use Rattle.tree.specs.work.Rows.{Fitting};
 use table::Opening;
 
 // What is refused, by the paper's number; the row it names, 0 where none is named; and how many rows the ring has that
@@ -30,7 +38,7 @@ pub enum Acceptance {
 
 // Tests 1 to 12, in order.
 pub fn accept(s: &[u8]) -> Acceptance
-    ensures { λ r. ⌜ Accepts (now (s .entry)) (outcome r) ⌝ }
+    ensures { λ r. ⌜ Accepts (now (s .entry)) (acceptanceOutcome r) ⌝ }
 {
     let o = table::examine(s);
     match o {
@@ -46,7 +54,8 @@ pub fn accept(s: &[u8]) -> Acceptance
 // Tests 11 and 12, of a table that has passed the others.
 fn rings(s: &[u8], nodes: u16, bound: u32) -> Acceptance
     requires { ⌜ Fitting (now s) nodes ⌝ }
-    ensures { λ r. ⌜ Rings Outcome refusal (now (s .entry)) nodes (λ x. x ≡ found nodes bound) (outcome r) ⌝ }
+    ensures { λ r. ⌜ Rings AcceptanceOutcome acceptanceRefusal (now (s .entry)) nodes (λ x. x ≡ netAccepted nodes bound)
+        (acceptanceOutcome r) ⌝ }
 {
     let n = arrays::wide(nodes);
     let rows = n - 1;

@@ -2,12 +2,14 @@
 // its second.
 ghost use mathlib.Core.Path.{_≡_};
 ghost use Prim.Native.Nat.{_+_, _*_, _/_, _<_};
-ghost use Rattle.arrays.specs.Filled.{at};
+ghost use Rattle.arrays.specs.At.{at};
 ghost use Rattle.table.specs.Row.{Stands};
 ghost use Rattle.tree.specs.Net.{firstEnd, secondEnd};
-ghost use Rattle.tree.specs.Half.{from};
-ghost use Rattle.tree.specs.Walked.{WalkedFrom};
-ghost use Rattle.tree.specs.Work.{Readable, Chained, Outer, Visits, Reaches};
+ghost use Rattle.tree.specs.work.Half.{from};
+ghost use Rattle.tree.specs.work.Walked.{WalkedFrom};
+ghost use Rattle.tree.specs.work.Rows.{Readable};
+ghost use Rattle.tree.specs.work.Chains.{Chained};
+ghost use Rattle.tree.specs.work.Queue.{Outer, Visits, Reaches};
 use crate::ends::first_end;
 use crate::ends::second_end;
 

@@ -2,7 +2,8 @@
 // same, and a row links two roots.
 ghost use Prim.Native.Nat.{_<_};
 ghost use Rattle.tree.specs.Net.{firstEnd, secondEnd};
-ghost use Rattle.tree.specs.Work.{Readable, Numbered, Rises, Root, FirstRing, Linkable, Union};
+ghost use Rattle.tree.specs.work.Rows.{Readable};
+ghost use Rattle.tree.specs.work.Union.{Numbered, Rises, Root, FirstRing, Linkable, Union};
 use crate::ends::first_end;
 use crate::ends::second_end;
 

@@ -1,7 +1,7 @@
 // How many rows the ring has that a row closes. Asked of the row of refusal 11 alone.
 ghost use Rattle.tree.specs.Net.{firstEnd, secondEnd};
 ghost use Rattle.tree.specs.Ring.{RingRows};
-ghost use Rattle.tree.specs.Work.{Closing};
+ghost use Rattle.tree.specs.work.Rows.{Closing};
 use crate::ends::first_end;
 use crate::ends::second_end;
 use crate::reach::walk_from;

@@ -1,5 +1,5 @@
--- Heaviest: an outcome that passes the test is the one promised. A run is held against every pair within B; refusal 16
--- finds none.
+-- Heaviest: an outcome that passes the test is the one promised. The pair that it gives is held against every pair
+-- within B; refusal 16 finds none.
 use Prim.Native.Nat.{ℕ, _-_, _≤_}
 use mathlib.Core.Path.{_≡_}
 use mathlib.Core.Bool.{Bool, true, false, cond}
@@ -11,13 +11,13 @@ use Rattle.table.specs.Refuse.{passed, refused}
 use Rattle.table.specs.Header.{nodesOf, boundOf}
 use Rattle.pages.specs.Listing.{Entry, entry}
 use Rattle.pages.proofs.Qualifying.{passes-map}
-use Rattle.answers.specs.Heaviest.{Outcome, refusal, found, Runs, HeaviestOf}
+use Rattle.heaviest.specs.Heaviest.{HeaviestOutcome, heaviestRefusal, heaviestFound, PairsWithin, HeaviestOf}
 use Rattle.worked.proofs.Tests.{every, every-passed, eqZ, eqZ-is}
 use Rattle.worked.proofs.Accepted.{accepted?, begins}
 use Rattle.worked.proofs.Pairs.{ways?, Wanted, wanted?, is-wanted, all-pairs, all-wanted}
 use Rattle.worked.proofs.Entries.{at-least?, is-at-least}
 
-module _ (way : ℕ → ℕ → List ℕ) (s marks : List ℕ) (o : Outcome) where
+module _ (way : ℕ → ℕ → List ℕ) (s marks : List ℕ) (o : HeaviestOutcome) where
   abbrev short : ℕ → Bool
   short l = leb l (boundOf s)
 
@@ -45,10 +45,10 @@ module _ (way : ℕ → ℕ → List ℕ) (s marks : List ℕ) (o : Outcome) whe
   unfoldable pub heaviest? : Bool
   heaviest? = every tests
 
-  to : (e : Entry) → Wanted s marks way short any e → Runs (λ l. l ≤ boundOf s) s marks (nodesOf s) e
+  to : (e : Entry) → Wanted s marks way short any e → PairsWithin (λ l. l ≤ boundOf s) s marks (nodesOf s) e
   to e = passes-map (λ q. q) (λ l. leb→le _ _ l) (λ _. tt)
 
-  fro : (e : Entry) → Runs (λ l. l ≤ boundOf s) s marks (nodesOf s) e → Wanted s marks way short any e
+  fro : (e : Entry) → PairsWithin (λ l. l ≤ boundOf s) s marks (nodesOf s) e → Wanted s marks way short any e
   fro e = passes-map (λ q. q) (λ l. le→leb _ _ l) (λ _. tt)
 
   pub is-heaviest : T heaviest? → HeaviestOf s marks o
@@ -64,7 +64,7 @@ module _ (way : ℕ → ℕ → List ℕ) (s marks : List ℕ) (o : Outcome) whe
       m : length marks ≡ nodesOf s - 1
       m = eqb→eq _ _ (p .1 .0)
 
-      turn : (x : Outcome) → o ≡ x → HeaviestOf s marks x → HeaviestOf s marks o
+      turn : (x : HeaviestOutcome) → o ≡ x → HeaviestOf s marks x → HeaviestOf s marks o
       turn x e h = rw e h
 
       pick : (b : Bool) → (T b → o .number ≡ 0) → T (cond b (every found-tests) (every refused-tests))
@@ -75,7 +75,7 @@ module _ (way : ℕ → ℕ → List ℕ) (s marks : List ℕ) (o : Outcome) whe
           let y : o .row ≡ 0 = eqb→eq _ _ (q .0) in
           let g : o .ring ≡ 0 = eqb→eq _ _ (q .1 .1 .1 .0) in
           let r = to run (is-wanted s marks way short any (p .1 .1 .0) run (q .1 .0)) in
-          let is : o ≡ found run = λ i. record {
+          let is : o ≡ heaviestFound run = λ i. record {
             number = z i;
             row = y i;
             ring = g i;
@@ -84,7 +84,7 @@ module _ (way : ℕ → ℕ → List ℕ) (s marks : List ℕ) (o : Outcome) whe
             length = o .length;
             weight = o .weight;
           } in
-          begins s (p .0) refusal
+          begins s (p .0) heaviestRefusal
           (passed m
           (passed (run, r)
           (record {
@@ -105,10 +105,10 @@ module _ (way : ℕ → ℕ → List ℕ) (s marks : List ℕ) (o : Outcome) whe
           let l : o .length ≡ 0 = eqb→eq _ _ (q .1 .1 .1 .1 .0) in
           let w : o .weight ≡ pos 0 = eqZ-is _ _ (q .1 .1 .1 .1 .1 .0) in
           let g : o .ring ≡ 0 = eqb→eq _ _ (q .1 .1 .1 .1 .1 .1 .1 .0) in
-          let is : o ≡ refusal 16 0 0 =
+          let is : o ≡ heaviestRefusal 16 0 0 =
           λ i. record { number = n i; row = r i; ring = g i; low = a i; high = b i; length = l i; weight = w i } in
-          turn (refusal 16 0 0) is
-          (begins s (p .0) refusal
+          turn (heaviestRefusal 16 0 0) is
+          (begins s (p .0) heaviestRefusal
           (passed m
           (refused
           (λ e. all-wanted s marks way short any (p .0) (p .1 .1 .0) (λ e. false) (q .1 .1 .1 .1 .1 .1 .0) (e .0)

@@ -8,14 +8,14 @@ use native.Mathlib.Omega.{arith}
 use native.Mathlib.Decide.{decLt}
 use lib.Dec.{T, eqb, ltb, leb, eqb-refl, eqb→eq, ltb→lt, leb→le, T-not}
 use lib.ListN.{length, List·getD-eq-default}
-use Rattle.arrays.specs.Filled.{at}
+use Rattle.arrays.specs.At.{at}
 use Rattle.table.specs.Refuse.{passed, refused}
 use Rattle.table.specs.Header.{nodesOf, boundOf}
 use Rattle.arrays.specs.Members.{In}
 use Rattle.tree.specs.Path.{Sum}
 use Rattle.tree.specs.Net.{lengthOf}
 use Rattle.tree.proofs.Labels.{both}
-use Rattle.marks.specs.Change.{Outcome, refusal, changed, Changes}
+use Rattle.marks.specs.Change.{ChangeOutcome, changeRefusal, changed, Changes}
 use Rattle.marks.specs.Claim.{Between, InReach, Taken, Ended, Claims}
 use Rattle.worked.proofs.Tests.{
   and,
@@ -40,7 +40,7 @@ use Rattle.worked.proofs.Tests.{
 use Rattle.worked.proofs.Accepted.{accepted?, begins}
 use Rattle.worked.proofs.Ways.{path?, is-path, path-only}
 
-module _ (way : ℕ → ℕ → List ℕ) (s before : List ℕ) (run a b : ℕ) (o : Outcome) where
+module _ (way : ℕ → ℕ → List ℕ) (s before : List ℕ) (run a b : ℕ) (o : ChangeOutcome) where
   abbrev rs : List ℕ
   rs = way a b
 
@@ -92,7 +92,7 @@ module _ (way : ℕ → ℕ → List ℕ) (s before : List ℕ) (run a b : ℕ) 
   unfoldable pub claim? : Bool
   claim? = every tests
 
-  is-refusal : (k : ℕ) → T (every (refused-tests k)) → o ≡ refusal before k 0 0
+  is-refusal : (k : ℕ) → T (every (refused-tests k)) → o ≡ changeRefusal before k 0 0
   is-refusal k t =
       let q = every-passed (refused-tests k) t in
       let f : o .refused ≡ true = is-true (o .refused) (q .0) in
@@ -169,7 +169,7 @@ module _ (way : ℕ → ℕ → List ℕ) (s before : List ℕ) (run a b : ℕ) 
     along : T ended → Ended s (nodesOf s) (boundOf s) before run a b o
     along t = pick (eqb (o .number) 18) (eqb (o .number) 19) t
       where
-        turn : (x : Outcome) → o ≡ x → Ended s (nodesOf s) (boundOf s) before run a b x
+        turn : (x : ChangeOutcome) → o ≡ x → Ended s (nodesOf s) (boundOf s) before run a b x
             → Ended s (nodesOf s) (boundOf s) before run a b o
         turn x e h = rw e h
 
@@ -177,10 +177,10 @@ module _ (way : ℕ → ℕ → List ℕ) (s before : List ℕ) (run a b : ℕ) 
             → Ended s (nodesOf s) (boundOf s) before run a b o
         pick true d t =
             let q = every-passed long-tests t in
-            turn (refusal before 18 0 0) (is-refusal 18 (q .0)) (refused (long (ltb→lt _ _ (q .1 .0))))
+            turn (changeRefusal before 18 0 0) (is-refusal 18 (q .0)) (refused (long (ltb→lt _ _ (q .1 .0))))
         pick false true t =
             let q = every-passed none-tests t in
-            turn (refusal before 19 0 0) (is-refusal 19 (q .0))
+            turn (changeRefusal before 19 0 0) (is-refusal 19 (q .0))
             (passed (record { rows = rs; path = path; short = leb→le _ _ (q .1 .0) })
             (refused
             (λ f. T-not (eqb (at before (f .row)) 0)
@@ -198,7 +198,7 @@ module _ (way : ℕ → ℕ → List ℕ) (s before : List ℕ) (run a b : ℕ) 
   is-claim t =
       let p = every-passed tests t in
       let q = p .1 .1 .1 .1 in
-      begins s (p .0) (refusal before)
+      begins s (p .0) (changeRefusal before)
       (passed (eqb→eq _ _ (p .1 .0))
       (passed (record { above = ltb→lt _ _ (p .1 .1 .0); below = ltb→lt _ _ (p .1 .1 .1 .0) })
       (passed

@@ -11,7 +11,7 @@ use lib.Signed.{ltZ, _≤ℤ_, leZ-yes, ltZ-yes, ≤ℤ-refl, <ℤ-irrefl}
 use Rattle.arrays.specs.Members.{In, at, past}
 use Rattle.pages.specs.Listing.{Entry, After, first, second, Rising, none, more}
 use Rattle.tree.proofs.Labels.{both}
-use Rattle.answers.specs.Heaviest.{AtLeast}
+use Rattle.heaviest.specs.Heaviest.{AtLeast}
 use Rattle.worked.proofs.Tests.{
   and,
   either,
@@ -26,7 +26,8 @@ use Rattle.worked.proofs.Tests.{
 }
 
 abbrev entry-tests : Entry → Entry → List Bool
-entry-tests x y = eqb (x .low) (y .low) ∷ eqb (x .high) (y .high) ∷ eqb (x .length) (y .length) ∷ eqZ (x .weight) (y .weight) ∷ []
+entry-tests x y =
+    eqb (x .low) (y .low) ∷ eqb (x .high) (y .high) ∷ eqb (x .length) (y .length) ∷ eqZ (x .weight) (y .weight) ∷ []
 
 unfoldable pub same-entry : Entry → Entry → Bool
 same-entry x y = every (entry-tests x y)
@@ -56,11 +57,16 @@ is-after s t e h = pick (either (ltb s (e .low)) (eqb s (e .low) && ltb t (e .hi
 pub after-test : (s t : ℕ) (e : Entry) → After s t e → T (after? s t e)
 unfolding after?
 after-test s t e (first h) = left-or (ltb s (e .low)) (eqb s (e .low) && ltb t (e .high)) (lt→ltb _ _ h)
-after-test s t e (second h k) = right-or (ltb s (e .low)) (eqb s (e .low) && ltb t (e .high)) (and (eqb s (e .low)) (ltb t (e .high)) (rw h (eqb-refl (e .low))) (lt→ltb _ _ k))
+after-test s t e (second h k) =
+    right-or (ltb s (e .low)) (eqb s (e .low) && ltb t (e .high))
+    (and (eqb s (e .low)) (ltb t (e .high)) (rw h (eqb-refl (e .low))) (lt→ltb _ _ k))
 
 -- e is at least as good as f
 unfoldable pub at-least? : Entry → Entry → Bool
-at-least? e f = ltZ (f .weight) (e .weight) || (eqZ (f .weight) (e .weight) && (ltb (e .length) (f .length) || (eqb (e .length) (f .length) && not (after? (f .low) (f .high) e))))
+at-least? e f =
+    ltZ (f .weight) (e .weight) ||
+    (eqZ (f .weight) (e .weight) &&
+    (ltb (e .length) (f .length) || (eqb (e .length) (f .length) && not (after? (f .low) (f .high) e))))
 
 lt-le : (x y : ℤ) → T (ltZ x y) → x ≤ℤ y
 lt-le (pos a) (pos b) t = leZ-yes (le→leb a b (omega (arith, ltb→lt a b t)))
@@ -70,20 +76,45 @@ lt-le (negsuc a) (negsuc b) t = leZ-yes (le→leb b a (omega (arith, ltb→lt b 
 
 pub is-at-least : (e f : Entry) → T (at-least? e f) → AtLeast e f
 unfolding at-least?
-is-at-least e f t = one (either (ltZ (f .weight) (e .weight)) (eqZ (f .weight) (e .weight) && (ltb (e .length) (f .length) || (eqb (e .length) (f .length) && not (after? (f .low) (f .high) e)))) t)
+is-at-least e f t =
+    one
+    (either (ltZ (f .weight) (e .weight))
+    (eqZ (f .weight) (e .weight) &&
+    (ltb (e .length) (f .length) || (eqb (e .length) (f .length) && not (after? (f .low) (f .high) e))))
+    t)
   where
-    two : f .weight ≡ e .weight → T (ltb (e .length) (f .length)) ⊎ T (eqb (e .length) (f .length) && not (after? (f .low) (f .high) e)) → AtLeast e f
-    two p (inl h) = let b : e .length < f .length = ltb→lt (e .length) (f .length) h in record { weight = rw p (≤ℤ-refl (e .weight)); length = λ _. omega arith; pair = λ _ z. absurd (omega arith) }
+    two : f .weight ≡ e .weight
+        → T (ltb (e .length) (f .length)) ⊎ T (eqb (e .length) (f .length) && not (after? (f .low) (f .high) e))
+        → AtLeast e f
+    two p (inl h) =
+        let b : e .length < f .length = ltb→lt (e .length) (f .length) h in
+        record { weight = rw p (≤ℤ-refl (e .weight)); length = λ _. omega arith; pair = λ _ z. absurd (omega arith) }
     two p (inr h) =
         let a = both (eqb (e .length) (f .length)) (not (after? (f .low) (f .high) e)) h in
         let b : e .length ≡ f .length = eqb→eq (e .length) (f .length) (a .0) in
-        record { weight = rw p (≤ℤ-refl (e .weight)); length = λ _. omega arith; pair = λ _ _ k. T-not (after? (f .low) (f .high) e) (a .1) (after-test (f .low) (f .high) e k) }
+        record {
+          weight = rw p (≤ℤ-refl (e .weight));
+          length = λ _. omega arith;
+          pair = λ _ _ k. T-not (after? (f .low) (f .high) e) (a .1) (after-test (f .low) (f .high) e k);
+        }
 
-    one : T (ltZ (f .weight) (e .weight)) ⊎ T (eqZ (f .weight) (e .weight) && (ltb (e .length) (f .length) || (eqb (e .length) (f .length) && not (after? (f .low) (f .high) e)))) → AtLeast e f
-    one (inl h) = let differ : f .weight ≡ e .weight → ⊥ = λ z. <ℤ-irrefl {a = e .weight} (ltZ-yes (rw z at h)) in record { weight = lt-le (f .weight) (e .weight) h; length = λ z. absurd (differ z); pair = λ z. absurd (differ z) }
+    one : T (ltZ (f .weight) (e .weight))
+        ⊎ T
+        (eqZ (f .weight) (e .weight) &&
+        (ltb (e .length) (f .length) || (eqb (e .length) (f .length) && not (after? (f .low) (f .high) e))))
+        → AtLeast e f
+    one (inl h) =
+        let differ : f .weight ≡ e .weight → ⊥ = λ z. <ℤ-irrefl {a = e .weight} (ltZ-yes (rw z at h)) in
+        record {
+          weight = lt-le (f .weight) (e .weight) h;
+          length = λ z. absurd (differ z);
+          pair = λ z. absurd (differ z);
+        }
     one (inr h) =
-        let a = both (eqZ (f .weight) (e .weight)) (ltb (e .length) (f .length) || (eqb (e .length) (f .length) && not (after? (f .low) (f .high) e))) h in
-        two (eqZ-is (f .weight) (e .weight) (a .0)) (either (ltb (e .length) (f .length)) (eqb (e .length) (f .length) && not (after? (f .low) (f .high) e)) (a .1))
+        let a = both (eqZ (f .weight) (e .weight))
+        (ltb (e .length) (f .length) || (eqb (e .length) (f .length) && not (after? (f .low) (f .high) e))) h in
+        two (eqZ-is (f .weight) (e .weight) (a .0))
+        (either (ltb (e .length) (f .length)) (eqb (e .length) (f .length) && not (after? (f .low) (f .high) e)) (a .1))
 
 unfoldable pub has-entry : List Entry → Entry → Bool
 has-entry [] e = false

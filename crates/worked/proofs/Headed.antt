@@ -8,13 +8,13 @@ use native.Mathlib.Omega.{arith}
 use native.Mathlib.Decide.{ℕ-discrete}
 use lib.Dec.{T, eqb, ltb, eqb-refl, eqb→eq, ltb→lt, T-not, not-T}
 use lib.ListN.{length}
-use Rattle.arrays.specs.Filled.{at}
+use Rattle.arrays.specs.At.{at}
 use Rattle.table.specs.Refuse.{passed}
 use Rattle.table.specs.Header.{nodesOf}
 use Rattle.tree.specs.Net.{firstEnd, secondEnd}
 use Rattle.spines.specs.Spine.{ChildOf, Leaf}
-use Rattle.spines.specs.Heads.{HeadOf, Outcome, refusal, written, Headings}
-use Rattle.spines.specs.Parents.{Child}
+use Rattle.spines.specs.Heads.{HeadOf, HeadsOutcome, headsRefusal, headsWritten, Headings}
+use Rattle.spines.specs.work.Parents.{Child}
 use Rattle.spines.proofs.Same.{same-leaf}
 use Rattle.spines.proofs.Net.{child-net, net-child}
 use Rattle.worked.specs.Case.{LeavesAre}
@@ -36,7 +36,7 @@ use Rattle.worked.proofs.Tests.{
 use Rattle.worked.proofs.Accepted.{accepted?, begins}
 use Rattle.worked.proofs.Hung.{par, hung, hangs?, headAt, rooted, head-is}
 
-module _ (up by : ℕ → ℕ) (s before : List ℕ) (o : Outcome) where
+module _ (up by : ℕ → ℕ) (s before : List ℕ) (o : HeadsOutcome) where
   abbrev right : ℕ → Bool
   right x = eqb (headAt up by s x) (at (o .list) x)
 
@@ -51,7 +51,7 @@ module _ (up by : ℕ → ℕ) (s before : List ℕ) (o : Outcome) where
   unfoldable pub heads? : Bool
   heads? = every tests
 
-  is-written : T (every written-tests) → o ≡ written (o .list)
+  is-written : T (every written-tests) → o ≡ headsWritten (o .list)
   is-written t =
       let q = every-passed written-tests t in
       let f : o .refused ≡ false = is-false (o .refused) (q .0) in
@@ -65,7 +65,7 @@ module _ (up by : ℕ → ℕ) (s before : List ℕ) (o : Outcome) where
   is-heads t =
       let p = every-passed tests t in
       let q = p .1 .1 in
-      begins s (p .0) (refusal before)
+      begins s (p .0) (headsRefusal before)
       (passed (eqb→eq _ _ (q .0))
       (record {
         is = is-written (q .1 .0);

@@ -1,4 +1,5 @@
--- A net hung up at node 0: `up x` is said to be the parent of x, and `by x` the row to it. Tested row by row; then each node's head is found by the laws of the spines.
+-- A net hung up at node 0: `up x` is said to be the parent of x, and `by x` the row to it. Tested row by row; then each
+-- node's head is found by the laws of the spines.
 use Prim.Native.Nat.{ℕ, suc, _-_, _<_}
 use mathlib.Core.Logic.{_⊎_, inl, inr, _≢_}
 use mathlib.Core.Bool.{Bool, true, false, _&&_, _||_, cond}
@@ -9,13 +10,13 @@ use lib.Dec.{T, eqb, ltb, eqb→eq, ltb→lt}
 use Rattle.table.specs.Header.{nodesOf}
 use Rattle.tree.specs.Graph.{Ends}
 use Rattle.tree.specs.Net.{firstEnd, secondEnd}
-use Rattle.tree.specs.Rooted.{Rooted}
+use Rattle.tree.specs.work.Rooted.{Rooted}
 use Rattle.tree.proofs.Above.{Tree}
 use Rattle.tree.proofs.Joined.{joined-trans, joined-sym}
 use Rattle.tree.proofs.Labels.{both}
 use Rattle.spines.specs.Spine.{Head}
 use Rattle.spines.specs.Heads.{HeadOf}
-use Rattle.spines.specs.Parents.{Child}
+use Rattle.spines.specs.work.Parents.{Child}
 use Rattle.spines.proofs.Head.{head-some}
 use Rattle.spines.proofs.Net.{head-net}
 use Rattle.worked.proofs.Tests.{either, every, every-passed, below, below-all}
@@ -41,7 +42,9 @@ module _ (up by : ℕ → ℕ) (s : List ℕ) where
   hung = record { fits = λ x b z. omega (arith, par-less x z); earlier = λ x b z. par-less x z; within = λ x b. b }
 
   abbrev joins : ℕ → Bool
-  joins x = (eqb (firstEnd s (by x)) x && eqb (secondEnd s (by x)) (par x)) || (eqb (firstEnd s (by x)) (par x) && eqb (secondEnd s (by x)) x)
+  joins x =
+      (eqb (firstEnd s (by x)) x && eqb (secondEnd s (by x)) (par x)) ||
+      (eqb (firstEnd s (by x)) (par x) && eqb (secondEnd s (by x)) x)
 
   abbrev hang-tests : ℕ → List Bool
   hang-tests x = ltb (by x) (nodesOf s - 1) ∷ joins x ∷ []
@@ -51,18 +54,29 @@ module _ (up by : ℕ → ℕ) (s : List ℕ) where
 
   hangs : T hangs? → (x : ℕ) → x < nodesOf s → x ≢ 0 → T (every (hang-tests x))
   unfolding hangs?
-  hangs t x b z = pick (either (eqb x 0) (every (hang-tests x)) (below-all (λ x. eqb x 0 || every (hang-tests x)) (nodesOf s) t x b))
+  hangs t x b z =
+      pick
+      (either (eqb x 0) (every (hang-tests x)) (below-all (λ x. eqb x 0 || every (hang-tests x)) (nodesOf s) t x b))
     where
       pick : T (eqb x 0) ⊎ T (every (hang-tests x)) → T (every (hang-tests x))
       pick (inl e) = absurd (z (eqb→eq x 0 e))
       pick (inr h) = h
 
   ends : (x : ℕ) → T (joins x) → Ends (firstEnd s) (secondEnd s) (by x) x (par x)
-  ends x t = pick (either (eqb (firstEnd s (by x)) x && eqb (secondEnd s (by x)) (par x)) (eqb (firstEnd s (by x)) (par x) && eqb (secondEnd s (by x)) x) t)
+  ends x t =
+      pick
+      (either (eqb (firstEnd s (by x)) x && eqb (secondEnd s (by x)) (par x))
+      (eqb (firstEnd s (by x)) (par x) && eqb (secondEnd s (by x)) x) t)
     where
-      pick : T (eqb (firstEnd s (by x)) x && eqb (secondEnd s (by x)) (par x)) ⊎ T (eqb (firstEnd s (by x)) (par x) && eqb (secondEnd s (by x)) x) → Ends (firstEnd s) (secondEnd s) (by x) x (par x)
-      pick (inl h) = let p = both (eqb (firstEnd s (by x)) x) (eqb (secondEnd s (by x)) (par x)) h in inl (eqb→eq _ _ (p .0), eqb→eq _ _ (p .1))
-      pick (inr h) = let p = both (eqb (firstEnd s (by x)) (par x)) (eqb (secondEnd s (by x)) x) h in inr (eqb→eq _ _ (p .0), eqb→eq _ _ (p .1))
+      pick : T (eqb (firstEnd s (by x)) x && eqb (secondEnd s (by x)) (par x))
+          ⊎ T (eqb (firstEnd s (by x)) (par x) && eqb (secondEnd s (by x)) x)
+          → Ends (firstEnd s) (secondEnd s) (by x) x (par x)
+      pick (inl h) =
+          let p = both (eqb (firstEnd s (by x)) x) (eqb (secondEnd s (by x)) (par x)) h in
+          inl (eqb→eq _ _ (p .0), eqb→eq _ _ (p .1))
+      pick (inr h) =
+          let p = both (eqb (firstEnd s (by x)) (par x)) (eqb (secondEnd s (by x)) x) h in
+          inr (eqb→eq _ _ (p .0), eqb→eq _ _ (p .1))
 
   -- the head of x
   unfoldable pub headAt : ℕ → ℕ
@@ -72,21 +86,25 @@ module _ (up by : ℕ → ℕ) (s : List ℕ) where
   unfolding headAt
   head-at x b = pick (decLt x (nodesOf s))
     where
-      pick : (d : Dec (x < nodesOf s)) → Head (Child (nodesOf s) par) (nodesOf s) (elim d as (λ d. ℕ) [ yes b ↦ head-some hung (suc x) x b (self-less x) .0 | no m ↦ 0 ]) x
+      pick : (d : Dec (x < nodesOf s))
+          → Head (Child (nodesOf s) par) (nodesOf s)
+          (elim d as (λ d. ℕ) [ yes b ↦ head-some hung (suc x) x b (self-less x) .0 | no m ↦ 0 ]) x
       pick (yes b) = head-some hung (suc x) x b (self-less x) .1
       pick (no m) = absurd (m b)
 
   module _ (ok : T (accepted? s)) (t : T hangs?) where
     pub rooted : Rooted (firstEnd s) (secondEnd s) (nodesOf s - 1) (nodesOf s) par by (λ x. x)
-    rooted = record {
-      forest = forest s ok;
-      fits = ends-fit s ok;
-      all = λ a b l k. joined-trans (firstEnd s) (secondEnd s) (joined-sym (firstEnd s) (secondEnd s) (whole s ok a l)) (whole s ok b k);
-      row-fits = λ x b z. ltb→lt _ _ (every-passed (hang-tests x) (hangs t x b z) .0);
-      par-fits = λ x b z. hung .fits x b z;
-      ends = λ x b z. ends x (every-passed (hang-tests x) (hangs t x b z) .1 .0);
-      earlier = λ x b z. par-less x z;
-    }
+    rooted =
+        record {
+          forest = forest s ok;
+          fits = ends-fit s ok;
+          all = λ a b l k. joined-trans (firstEnd s) (secondEnd s)
+              (joined-sym (firstEnd s) (secondEnd s) (whole s ok a l)) (whole s ok b k);
+          row-fits = λ x b z. ltb→lt _ _ (every-passed (hang-tests x) (hangs t x b z) .0);
+          par-fits = λ x b z. hung .fits x b z;
+          ends = λ x b z. ends x (every-passed (hang-tests x) (hangs t x b z) .1 .0);
+          earlier = λ x b z. par-less x z;
+        }
 
     pub head-is : (x : ℕ) → x < nodesOf s → HeadOf s (nodesOf s) (headAt x) x
     head-is x b = head-net rooted hung (omega arith) (head-at x b)

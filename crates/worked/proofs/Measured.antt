@@ -19,7 +19,7 @@ use Rattle.spines.specs.Spine.{ChildOf}
 use Rattle.spines.specs.Heads.{HeadOf}
 use Rattle.spines.specs.Hops.{Touched}
 use Rattle.spines.proofs.Net.{net-head-only}
-use Rattle.answers.specs.Pair.{Outcome, refusal, PairOf}
+use Rattle.pair.specs.Pair.{PairOutcome, pairRefusal, PairOf}
 use Rattle.worked.proofs.Tests.{
   every,
   every-passed,
@@ -94,7 +94,7 @@ module _ (up by : ℕ → ℕ) (s : List ℕ) where
               → HeadOf s (nodesOf s) h (i .0)
           rename e k = rw (← e) k
 
-module _ (way : ℕ → ℕ → List ℕ) (up by : ℕ → ℕ) (s marks : List ℕ) (a b : ℕ) (o : Outcome) where
+module _ (way : ℕ → ℕ → List ℕ) (up by : ℕ → ℕ) (s marks : List ℕ) (a b : ℕ) (o : PairOutcome) where
   abbrev rs : List ℕ
   rs = way a b
 
@@ -119,7 +119,7 @@ module _ (way : ℕ → ℕ → List ℕ) (up by : ℕ → ℕ) (s marks : List 
       let w = q .1 .1 .1 .1 .0 in
       let r = q .1 .1 .1 .1 .1 in
       let k = is-walk s a rs b w in
-      begins s (p .0) refusal
+      begins s (p .0) pairRefusal
       (passed (eqb→eq _ _ (q .0))
       (passed
       (record {

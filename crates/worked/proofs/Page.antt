@@ -16,8 +16,8 @@ use Rattle.pages.specs.Passes.{Qualifies}
 use Rattle.pages.specs.Page.{Following}
 use Rattle.pages.proofs.Qualifying.{passes-map}
 use Rattle.pages.specs.Bytes.{rows}
-use Rattle.answers.specs.PathOf.{PathOf}
-use Rattle.answers.specs.Listing.{Outcome, refusal, ListingOf}
+use Rattle.ground.specs.PathOf.{PathOf}
+use Rattle.listing.specs.Listing.{ListingOutcome, listingRefusal, ListingOf}
 use Rattle.worked.proofs.Tests.{
   either,
   is-false,
@@ -30,21 +30,13 @@ use Rattle.worked.proofs.Tests.{
 }
 use Rattle.worked.proofs.Accepted.{accepted?, begins}
 use Rattle.worked.proofs.Pairs.{of, ways?, Wanted, wanted?, is-wanted, all-pairs, all-wanted}
-use Rattle.worked.proofs.Entries.{
-  after?,
-  is-after,
-  after-test,
-  has-entry,
-  has-entry-in,
-  rising?,
-  is-rising,
-}
+use Rattle.worked.proofs.Entries.{after?, is-after, after-test, has-entry, has-entry-in, rising?, is-rising}
 
 abbrev keep : Bool → Entry → List Entry
 keep true e = e ∷ []
 keep false e = []
 
-module _ (way : ℕ → ℕ → List ℕ) (s marks : List ℕ) (floor : ℤ) (low high : ℕ) (lent : List ℕ) (o : Outcome) where
+module _ (way : ℕ → ℕ → List ℕ) (s marks : List ℕ) (floor : ℤ) (low high : ℕ) (lent : List ℕ) (o : ListingOutcome) where
   abbrev short : ℕ → Bool
   short l = leb l (boundOf s)
 
@@ -97,7 +89,7 @@ module _ (way : ℕ → ℕ → List ℕ) (s marks : List ℕ) (floor : ℤ) (lo
       let q = p .1 .1 .1 .1 in
       let refused = q .1 .1 .1 .1 .0 in
       let r = q .1 .1 .1 .1 .1 in
-      begins s (p .0) (refusal lent)
+      begins s (p .0) (listingRefusal lent)
       (passed (eqb→eq _ _ (p .1 .0))
       (passed (leb→le _ _ (p .1 .1 .1 .0))
       (record {

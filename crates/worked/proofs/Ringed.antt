@@ -11,7 +11,7 @@ use Rattle.table.specs.Header.{nodesOf}
 use Rattle.tree.specs.Graph.{First, Walk, stop, go}
 use Rattle.tree.specs.Net.{firstEnd, secondEnd}
 use Rattle.tree.specs.Ring.{closed}
-use Rattle.tree.specs.Accept.{Outcome, refusal, Accepts}
+use Rattle.tree.specs.Accept.{AcceptanceOutcome, acceptanceRefusal, Accepts}
 use Rattle.tree.proofs.Eleven.{first-refused}
 use Rattle.tree.proofs.Labels.{both, grows, grows-forest}
 use Rattle.worked.proofs.Tests.{every, every-passed, throughout}
@@ -27,7 +27,7 @@ earlier r t (go {r = q} {rs = rs} h e w) =
     let x = both (ltb q r) (throughout (λ q. ltb q r) rs) t in
     go (ltb→lt q r (x .0)) e (earlier r (x .1) w)
 
-module _ (way : ℕ → ℕ → List ℕ) (s : List ℕ) (o : Outcome) where
+module _ (way : ℕ → ℕ → List ℕ) (s : List ℕ) (o : AcceptanceOutcome) where
   abbrev r : ℕ
   r = o .row
 
@@ -58,5 +58,5 @@ module _ (way : ℕ → ℕ → List ℕ) (s : List ℕ) (o : Outcome) where
       (grows-forest (firstEnd s) (secondEnd s) r (p .1 .1 .0))
       (closed rs (met s (firstEnd s r) rs, earlier r (q .0) (w .0), w .1) g) (λ e. omega (arith, e, g)))
     where
-      turn : o ≡ refusal 11 r (o .ring) → Accepts s (refusal 11 r (o .ring)) → Accepts s o
+      turn : o ≡ acceptanceRefusal 11 r (o .ring) → Accepts s (acceptanceRefusal 11 r (o .ring)) → Accepts s o
       turn e h = rw e h

@@ -1,4 +1,5 @@
--- Tests that compute, each with what it shows: all of a list of tests, all numbers below n, members of a list, no member twice, equal lists, equal signed numbers.
+-- Tests that compute, each with what it shows: all of a list of tests, all numbers below n, members of a list, no
+-- member twice, equal lists, equal signed numbers.
 use Prim.Native.Nat.{ℕ, zero, suc, _<_}
 use mathlib.Core.Path.{_≡_, refl, ap}
 use mathlib.Core.Logic.{_⊎_, inl, inr}
@@ -113,7 +114,9 @@ no-repeat (x ∷ l) = not (has x l) && no-repeat l
 pub no-repeat-distinct : (l : List ℕ) → T (no-repeat l) → Distinct l
 unfolding no-repeat
 no-repeat-distinct [] t = tt
-no-repeat-distinct (x ∷ l) t = let b = both (not (has x l)) (no-repeat l) t in ((λ h. T-not (has x l) (b .0) (in-has h)), no-repeat-distinct l (b .1))
+no-repeat-distinct (x ∷ l) t =
+    let b = both (not (has x l)) (no-repeat l) t in
+    ((λ h. T-not (has x l) (b .0) (in-has h)), no-repeat-distinct l (b .1))
 
 unfoldable pub same : List ℕ → List ℕ → Bool
 same [] [] = true

@@ -1,4 +1,5 @@
--- Ways: `way a b` is said to be the rows of the path from a to b. It is walked again, node by node, and no node is met twice: so it is the path, and the only one.
+-- Ways: `way a b` is said to be the rows of the path from a to b. It is walked again, node by node, and no node is met
+-- twice: so it is the path, and the only one.
 use Prim.Native.Nat.{ℕ, _-_}
 use mathlib.Core.Path.{_≡_, refl}
 use mathlib.Core.Logic.{inl, inr}
@@ -26,21 +27,26 @@ module _ (s : List ℕ) where
 
   unfoldable pub leads : ℕ → List ℕ → ℕ → Bool
   leads a [] b = eqb a b
-  leads a (r ∷ rs) b = ltb r (nodesOf s - 1) && (eqb (firstEnd s r) a || eqb (secondEnd s r) a) && leads (other r a) rs b
+  leads a (r ∷ rs) b =
+      ltb r (nodesOf s - 1) && (eqb (firstEnd s r) a || eqb (secondEnd s r) a) && leads (other r a) rs b
 
-  other-ends : (r a : ℕ) → T (eqb (firstEnd s r) a || eqb (secondEnd s r) a) → Ends (firstEnd s) (secondEnd s) r a (other r a)
+  other-ends : (r a : ℕ) → T (eqb (firstEnd s r) a || eqb (secondEnd s r) a)
+      → Ends (firstEnd s) (secondEnd s) r a (other r a)
   unfolding other
   other-ends r a t = pick (eqb (firstEnd s r) a) (λ e. e) t
     where
-      pick : (b : Bool) → (T b → T (eqb (firstEnd s r) a)) → T (b || eqb (secondEnd s r) a) → Ends (firstEnd s) (secondEnd s) r a (cond b (secondEnd s r) (firstEnd s r))
+      pick : (b : Bool) → (T b → T (eqb (firstEnd s r) a)) → T (b || eqb (secondEnd s r) a)
+          → Ends (firstEnd s) (secondEnd s) r a (cond b (secondEnd s r) (firstEnd s r))
       pick true f t = inl (eqb→eq _ _ (f tt), refl)
       pick false f t = inr (refl, eqb→eq _ _ t)
 
-  leads-walk : (a : ℕ) (rs : List ℕ) (b : ℕ) → T (leads a rs b) → Walk (firstEnd s) (secondEnd s) (First (nodesOf s - 1)) a rs (met a rs) b
+  leads-walk : (a : ℕ) (rs : List ℕ) (b : ℕ) → T (leads a rs b)
+      → Walk (firstEnd s) (secondEnd s) (First (nodesOf s - 1)) a rs (met a rs) b
   unfolding leads met
   leads-walk a [] b t = rw (eqb→eq a b t) stop
   leads-walk a (r ∷ rs) b t =
-      let x = both (ltb r (nodesOf s - 1) && (eqb (firstEnd s r) a || eqb (secondEnd s r) a)) (leads (other r a) rs b) t in
+      let x = both (ltb r (nodesOf s - 1) && (eqb (firstEnd s r) a || eqb (secondEnd s r) a)) (leads (other r a) rs b)
+      t in
       let y = both (ltb r (nodesOf s - 1)) (eqb (firstEnd s r) a || eqb (secondEnd s r) a) (x .0) in
       go (ltb→lt r (nodesOf s - 1) (y .0)) (other-ends r a (y .1)) (leads-walk (other r a) rs b (x .1))
 
@@ -48,12 +54,17 @@ module _ (s : List ℕ) where
   unfoldable pub path? : ℕ → List ℕ → ℕ → Bool
   path? a rs b = leads a rs b && no-repeat (a ∷ met a rs)
 
-  pub is-walk : (a : ℕ) (rs : List ℕ) (b : ℕ) → T (path? a rs b) → Walk (firstEnd s) (secondEnd s) (First (nodesOf s - 1)) a rs (met a rs) b × Distinct (a ∷ met a rs)
+  pub is-walk : (a : ℕ) (rs : List ℕ) (b : ℕ) → T (path? a rs b)
+      → Walk (firstEnd s) (secondEnd s) (First (nodesOf s - 1)) a rs (met a rs) b × Distinct (a ∷ met a rs)
   unfolding path?
-  is-walk a rs b t = let x = both (leads a rs b) (no-repeat (a ∷ met a rs)) t in (leads-walk a rs b (x .0), no-repeat-distinct _ (x .1))
+  is-walk a rs b t =
+      let x = both (leads a rs b) (no-repeat (a ∷ met a rs)) t in
+      (leads-walk a rs b (x .0), no-repeat-distinct _ (x .1))
 
-  pub is-path : (a : ℕ) (rs : List ℕ) (b : ℕ) → T (path? a rs b) → Path (firstEnd s) (secondEnd s) (nodesOf s - 1) a rs b
+  pub is-path : (a : ℕ) (rs : List ℕ) (b : ℕ) → T (path? a rs b)
+      → Path (firstEnd s) (secondEnd s) (nodesOf s - 1) a rs b
   is-path a rs b t = let x = is-walk a rs b t in (met a rs, x .0, x .1)
 
-  pub path-only : {a b : ℕ} {rs ts : List ℕ} → T (accepted? s) → Path (firstEnd s) (secondEnd s) (nodesOf s - 1) a rs b → Path (firstEnd s) (secondEnd s) (nodesOf s - 1) a ts b → rs ≡ ts
+  pub path-only : {a b : ℕ} {rs ts : List ℕ} → T (accepted? s) → Path (firstEnd s) (secondEnd s) (nodesOf s - 1) a rs b
+      → Path (firstEnd s) (secondEnd s) (nodesOf s - 1) a ts b → rs ≡ ts
   path-only t p q = unique (firstEnd s) (secondEnd s) (forest s t) (p .1) (q .1) (p .2) (q .2) .0

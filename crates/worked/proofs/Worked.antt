@@ -16,7 +16,7 @@ use Rattle.spines.proofs.Head.{head-some}
 use Rattle.marks.specs.Weighs.{weighs, weightUnder}
 use Rattle.pages.specs.Bytes.{bytes, row, rows}
 use Rattle.worked.specs.Case.{Case, accept, heaviest, listing, heads, leaves, pair, claim, Holds, All}
-use Rattle.worked.specs.Cases.{net5, n5, free, held, marked, crossed, lent, three, cases}
+use Rattle.worked.specs.Cases.{net5, n5, unmarked, held, marked, crossed, lent, three, cases}
 use Rattle.worked.proofs.Tests.{every, below, has, throughout, no-repeat, same}
 use Rattle.worked.proofs.Accepted.{good?, accepted?}
 use Rattle.worked.proofs.Ways.{other, met, leads, path?}
@@ -81,8 +81,8 @@ all-hold (c ∷ l) t = let a = both (check c) (check-all l) t in (check-holds c 
 -- Every starred case holds.
 pub cases-hold : All cases
 unfolding head-some main? main-some best many count-dec leaves-some leaf-under? leaf? child? above? some? decLt decLe up
-    by heads? leaves? pair? hangs? par headAt once heads-of check-all check cases net5 n5 free held marked crossed lent
-    three way ways heaviest? claim? frees throughout listing? seconds firsts bytes row rows rising? has-entry
+    by heads? leaves? pair? hangs? par headAt once heads-of check-all check cases net5 n5 unmarked held marked crossed
+    lent three way ways heaviest? claim? frees throughout listing? seconds firsts bytes row rows rising? has-entry
     same-entry same good? accepted? ringed? ways? path? leads met other wanted? all-pairs at-least? after? every below
     has no-repeat label relabel grows ℕ-discrete firstEnd secondEnd lengthOf weightOf weightUnder weighs Total
 cases-hold = all-hold cases tt

@@ -6,19 +6,14 @@ use lib.IntN.{ℤ}
 use Rattle.table.specs.Header.{nodesOf}
 use Rattle.arrays.specs.Members.{In}
 use Rattle.tree.specs.Net.{firstEnd, secondEnd}
-use Rattle.tree.specs.Accept as A
-use Rattle.tree.specs.Accept.{Accepts}
+use Rattle.tree.specs.Accept.{AcceptanceOutcome, Accepts}
 use Rattle.spines.specs.Spine.{ChildOf, Leaf}
-use Rattle.spines.specs.Heads as S
-use Rattle.spines.specs.Heads.{Headings}
-use Rattle.marks.specs.Change as M
+use Rattle.spines.specs.Heads.{HeadsOutcome, Headings}
+use Rattle.marks.specs.Change.{ChangeOutcome}
 use Rattle.marks.specs.Claim.{Claims}
-use Rattle.answers.specs.Heaviest as H
-use Rattle.answers.specs.Heaviest.{HeaviestOf}
-use Rattle.answers.specs.Pair as P
-use Rattle.answers.specs.Pair.{PairOf}
-use Rattle.answers.specs.Listing as L
-use Rattle.answers.specs.Listing.{ListingOf}
+use Rattle.heaviest.specs.Heaviest.{HeaviestOutcome, HeaviestOf}
+use Rattle.pair.specs.Pair.{PairOutcome, PairOf}
+use Rattle.listing.specs.Listing.{ListingOutcome, ListingOf}
 
 -- the table's net has these leaves and no others
 pub record LeavesAre (s nodes : List ℕ) : Type 0 where
@@ -26,22 +21,22 @@ pub record LeavesAre (s nodes : List ℕ) : Type 0 where
   pub all : (x : ℕ) → Leaf (ChildOf (firstEnd s) (secondEnd s) (nodesOf s - 1) (nodesOf s)) (nodesOf s) x → In x nodes
 
 pub data Case : Type 0 where
-  accept : (table : List ℕ) → A.Outcome → Case
-  heaviest : (table marks : List ℕ) → H.Outcome → Case
-  listing : (table marks : List ℕ) (floor : ℤ) (low high : ℕ) (lent : List ℕ) → L.Outcome → Case
-  heads : (table lent : List ℕ) → S.Outcome → Case
-  leaves : (table nodes : List ℕ) → Case
-  pair : (table marks : List ℕ) (a b : ℕ) → P.Outcome → Case
-  claim : (table marks : List ℕ) (run a b : ℕ) → M.Outcome → Case
+  accept : (s : List ℕ) → AcceptanceOutcome → Case
+  heaviest : (s marks : List ℕ) → HeaviestOutcome → Case
+  listing : (s marks : List ℕ) (floor : ℤ) (low high : ℕ) (lent : List ℕ) → ListingOutcome → Case
+  heads : (s lent : List ℕ) → HeadsOutcome → Case
+  leaves : (s nodes : List ℕ) → Case
+  pair : (s marks : List ℕ) (a b : ℕ) → PairOutcome → Case
+  claim : (s marks : List ℕ) (run a b : ℕ) → ChangeOutcome → Case
 
 abbrev pub Holds : Case → Type 0
-Holds (accept table o) = Accepts table o
-Holds (heaviest table marks o) = HeaviestOf table marks o
-Holds (listing table marks floor low high lent o) = ListingOf table marks floor low high lent o
-Holds (heads table lent o) = Headings table lent o
-Holds (leaves table nodes) = LeavesAre table nodes
-Holds (pair table marks a b o) = PairOf table marks a b o
-Holds (claim table marks run a b o) = Claims table marks run a b o
+Holds (accept s o) = Accepts s o
+Holds (heaviest s marks o) = HeaviestOf s marks o
+Holds (listing s marks floor low high lent o) = ListingOf s marks floor low high lent o
+Holds (heads s lent o) = Headings s lent o
+Holds (leaves s nodes) = LeavesAre s nodes
+Holds (pair s marks a b o) = PairOf s marks a b o
+Holds (claim s marks run a b o) = Claims s marks run a b o
 
 abbrev pub All : List Case → Type 0
 All [] = Unit {0}

@@ -5,10 +5,10 @@ use mathlib.Core.Bool.{false}
 use mathlib.Core.List.{List, [], _∷_, _++_}
 use lib.IntN.{pos, negsuc}
 use Rattle.pages.specs.Listing.{entry}
-use Rattle.tree.specs.Accept as A
-use Rattle.spines.specs.Heads as S
-use Rattle.marks.specs.Change as M
-use Rattle.answers.specs.Heaviest as H
+use Rattle.tree.specs.Accept.{acceptanceRefusal}
+use Rattle.spines.specs.Heads.{headsWritten}
+use Rattle.marks.specs.Change.{changed, changeRefusal}
+use Rattle.heaviest.specs.Heaviest.{heaviestFound, heaviestRefusal}
 use Rattle.worked.specs.Case.{Case, accept, heaviest, listing, heads, leaves, pair, claim}
 
 -- a table: R T N, version 1, 5 nodes, reserved, bound B (below 256); then the rows
@@ -25,8 +25,8 @@ net5 a b bound =
 unfoldable pub n5 : ℕ → List ℕ
 n5 = net5 1 2
 
-unfoldable pub free : List ℕ
-free = 0 ∷ 0 ∷ 0 ∷ 0 ∷ []
+unfoldable pub unmarked : List ℕ
+unmarked = 0 ∷ 0 ∷ 0 ∷ 0 ∷ []
 
 -- run 7 holds the branches of the path 2–3
 unfoldable pub held : List ℕ
@@ -53,23 +53,23 @@ three =
 
 unfoldable pub cases : List Case
 cases =
-    heaviest (n5 9) free (H.found (entry 2 3 9 (pos 9)))
-    ∷ heaviest (n5 8) free (H.found (entry 1 3 6 (pos 7)))
-    ∷ heaviest (n5 10) free (H.found (entry 0 3 10 (pos 12)))
-    ∷ heaviest (n5 2) free (H.found (entry 3 4 2 (negsuc 2)))
-    ∷ heaviest (n5 1) free (H.refusal 16 0 0)
-    ∷ listing (n5 9) free (pos 7) 0 0 (lent ++ lent ++ lent ++ lent)
+    heaviest (n5 9) unmarked (heaviestFound (entry 2 3 9 (pos 9)))
+    ∷ heaviest (n5 8) unmarked (heaviestFound (entry 1 3 6 (pos 7)))
+    ∷ heaviest (n5 10) unmarked (heaviestFound (entry 0 3 10 (pos 12)))
+    ∷ heaviest (n5 2) unmarked (heaviestFound (entry 3 4 2 (negsuc 2)))
+    ∷ heaviest (n5 1) unmarked (heaviestRefusal 16 0 0)
+    ∷ listing (n5 9) unmarked (pos 7) 0 0 (lent ++ lent ++ lent ++ lent)
     (record { refused = false; number = 0; row = 0; ring = 0; written = 3; left = 0; bytes = three ++ lent })
-    ∷ listing (n5 9) free (pos 10) 0 0 lent
+    ∷ listing (n5 9) unmarked (pos 10) 0 0 lent
     (record { refused = false; number = 0; row = 0; ring = 0; written = 0; left = 0; bytes = lent })
-    ∷ heads (n5 9) (9 ∷ 9 ∷ 9 ∷ 9 ∷ 9 ∷ []) (S.written (0 ∷ 0 ∷ 0 ∷ 3 ∷ 3 ∷ []))
+    ∷ heads (n5 9) (9 ∷ 9 ∷ 9 ∷ 9 ∷ 9 ∷ []) (headsWritten (0 ∷ 0 ∷ 0 ∷ 3 ∷ 3 ∷ []))
     ∷ leaves (n5 9) (2 ∷ 4 ∷ [])
-    ∷ pair (n5 9) free 2 4 (record { number = 0; row = 0; ring = 0; length = 11; weight = pos 6; hops = 2 })
-    ∷ claim (n5 9) free 7 2 3 (M.changed held 2)
-    ∷ heaviest (n5 9) held (H.found (entry 0 1 4 (pos 5)))
-    ∷ claim (n5 9) held 8 1 3 (M.refusal held 19 0 0)
-    ∷ claim (n5 9) free 7 0 3 (M.refusal free 18 0 0)
-    ∷ claim (n5 9) marked 7 0 3 (M.refusal marked 18 0 0)
-    ∷ heaviest (n5 2) crossed (H.found (entry 3 4 2 (negsuc 2)))
-    ∷ accept (net5 0 1 8) (A.refusal 11 1 2)
+    ∷ pair (n5 9) unmarked 2 4 (record { number = 0; row = 0; ring = 0; length = 11; weight = pos 6; hops = 2 })
+    ∷ claim (n5 9) unmarked 7 2 3 (changed held 2)
+    ∷ heaviest (n5 9) held (heaviestFound (entry 0 1 4 (pos 5)))
+    ∷ claim (n5 9) held 8 1 3 (changeRefusal held 19 0 0)
+    ∷ claim (n5 9) unmarked 7 0 3 (changeRefusal unmarked 18 0 0)
+    ∷ claim (n5 9) marked 7 0 3 (changeRefusal marked 18 0 0)
+    ∷ heaviest (n5 2) crossed (heaviestFound (entry 3 4 2 (negsuc 2)))
+    ∷ accept (net5 0 1 8) (acceptanceRefusal 11 1 2)
     ∷ []

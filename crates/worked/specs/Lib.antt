@@ -1,3 +1,3 @@
--- What a reader must believe of the worked cases: what a case is and when it holds, and the list of them.
+-- What a reader must believe of this crate.
 pub mod Case
 pub mod Cases

@@ -7,10 +7,10 @@ use Rattle.cases.proofs.each.Statement.{statement}
 use Rattle.cases.proofs.each.Tie as tie
 
 abbrev Inv-loop : tie.InvT-loop
-Inv-loop t marks₀ count i₀ marks i = (i ≤ count) × (length marks ≡ length marks₀)
+Inv-loop s marks₀ count i₀ marks i = (i ≤ count) × (length marks ≡ length marks₀)
 
 abbrev μ-loop : tie.MeasureT-loop
-μ-loop t marks₀ count i₀ marks i = count - i
+μ-loop s marks₀ count i₀ marks i = count - i
 
 loop-holds : tie.Need-loop-holds Inv-loop μ-loop
 loop-holds c = (omega arith, omega arith)

@@ -1,6 +1,6 @@
 -- `marks::claim` meets its contract: a refused acceptance is handed on, and an accepted net goes on to 13.
 use Rattle.tree.proofs.Begins.{admitted, refused-on, passed-on}
-use Rattle.marks.specs.Change.{refusal}
+use Rattle.marks.specs.Change.{changeRefusal}
 use borrow.Author.Needs.{needs}
 use Rattle.marks.proofs.claim.Statement.{statement}
 use Rattle.marks.proofs.claim.Tie as tie
@@ -18,13 +18,13 @@ claim-pair-requires : tie.Need-claim-pair-requires
 claim-pair-requires c κs =
     let accept-ensures = c .before .before .before .before .accept .ensures in
     let args = c .before .before .before .before .before .before .before .args in
-    admitted (args .table .now) _ _ (rw (c .before .before .o2 .given .1) at accept-ensures) .net
+    admitted (args .s .now) _ _ (rw (c .before .before .o2 .given .1) at accept-ensures) .net
 
 returns : tie.Need-returns
 returns c =
     let accept-ensures = c .before .before .before .accept .ensures in
     let args = c .before .before .before .before .before .before .args in
-    refused-on (refusal (args .marks .now)) (args .table .now) _ (rw (c .before .o .given .1) at accept-ensures)
+    refused-on (changeRefusal (args .marks .now)) (args .s .now) _ (rw (c .before .o .given .1) at accept-ensures)
 
 same-length : tie.Need-same-length
 same-length c = search needs
@@ -35,8 +35,8 @@ returns-2 c =
     let accept-ensures = c .before .before .before .before .before .before .before .accept .ensures in
     let args = c .before .before .before .before .before .before .before .before .before .before .args in
     let p = rw (o2-given .1) at accept-ensures in
-    let A = admitted (args .table .now) _ _ p in
-    passed-on (refusal (args .marks .now)) (args .table .now) _ _ p
+    let A = admitted (args .s .now) _ _ p in
+    passed-on (changeRefusal (args .marks .now)) (args .s .now) _ _ p
     (rw (A .nodes, A .bound) at (c .before .before .claim-pair .ensures))
 
 pub claim-spec : {M : Type 1} → statement M

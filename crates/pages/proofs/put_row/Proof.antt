@@ -1,7 +1,7 @@
 -- `pages::put_row` stores the four parts of a row one after the other, which is the store of the row.
 use borrow.Author.Needs.{needs}
 use Rattle.pages.specs.Listing.{entry}
-use Rattle.pages.specs.Work.{lower}
+use Rattle.pages.specs.work.Lowered.{lower}
 use Rattle.pages.proofs.Rows.{row-sets}
 use Rattle.pages.proofs.put_row.Statement.{statement}
 use Rattle.pages.proofs.put_row.Tie as tie

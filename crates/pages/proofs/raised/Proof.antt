@@ -11,9 +11,9 @@ use lib.Signed.{leZ, ltZ, nonNeg}
 use mir.Syntax.{w64}
 use mir.Val.{SFits, toZ, ofZ}
 use mir.ValLaws.{toZ-ofZ}
-use Rattle.table.specs.Signed.{up}
+use Rattle.table.specs.work.Diff.{up}
 use Rattle.table.proofs.Lift.{diff, diff-only}
-use Rattle.pages.specs.Work.{Raised}
+use Rattle.pages.specs.work.Lowered.{Raised}
 use Rattle.pages.proofs.Lift.{raise, raised-is}
 use Rattle.pages.proofs.raised.Statement.{statement}
 use Rattle.pages.proofs.raised.Tie as tie

@@ -1,7 +1,7 @@
 -- `paths::clear` goes over the first n places. The invariant: the first i flags are not set.
 use Prim.Native.Nat.{_-_, _≤_}
 use native.Mathlib.Omega.{arith}
-use Rattle.paths.specs.Work.{Cleared}
+use Rattle.paths.specs.work.Sweeps.{Cleared}
 use Rattle.paths.proofs.Climbs.{cleared-more, cleared-end}
 use Rattle.paths.proofs.clear.Statement.{statement}
 use Rattle.paths.proofs.clear.Tie as tie

@@ -5,9 +5,16 @@ use Prim.Native.Nat.{_≤_, _<_}
 use mathlib.Core.Path.{refl}
 use native.Mathlib.Omega.{arith}
 use borrow.Author.Needs.{needs}
-use Rattle.arrays.specs.Filled.{at}
-use Rattle.paths.specs.Work.{Climbable, Climbing}
-use Rattle.paths.proofs.Climbs.{climbing-start, climbing-step, climbing-end, climb-node, climb-fits, climb-less}
+use Rattle.arrays.specs.At.{at}
+use Rattle.paths.specs.work.Sweeps.{Climbable, Climbing}
+use Rattle.paths.proofs.Climbs.{
+  climbing-start,
+  climbing-step,
+  climbing-end,
+  climb-node,
+  climb-fits,
+  climb-less,
+}
 use Rattle.paths.proofs.climb.Statement.{statement}
 use Rattle.paths.proofs.climb.Tie as tie
 

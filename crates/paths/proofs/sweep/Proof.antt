@@ -5,7 +5,7 @@ use Prim.Native.Nat.{_-_, _<_}
 use mathlib.Core.Path.{refl}
 use native.Mathlib.Omega.{arith}
 use borrow.Author.Needs.{needs}
-use Rattle.paths.specs.Work.{Sweepable, Sweeping}
+use Rattle.paths.specs.work.Sweeps.{Sweepable, Sweeping}
 use Rattle.paths.proofs.Sweeps.{sweeping-one, sweeping-step, sweeping-end, sweep-node, sweep-parent, steps}
 use Rattle.paths.proofs.sweep.Statement.{statement}
 use Rattle.paths.proofs.sweep.Tie as tie

@@ -5,21 +5,21 @@ use mathlib.Core.Path.{_≡_}
 use native.Mathlib.Omega.{arith}
 use borrow.Author.Needs.{needs}
 use lib.ListN.{length}
-use Rattle.reporting.specs.Pieces.{Lent, Shown}
+use Rattle.reporting.specs.work.Pieces.{ReportLent, Shown}
 use Rattle.reporting.proofs.Steps.{lent-as, shown-fits}
 use Rattle.printing.proofs.pieces.Statement.{statement}
 use Rattle.printing.proofs.pieces.Tie as tie
 
 abbrev Inv-loop : tie.InvT-loop
-Inv-loop table branches rows₀ out₀ p₀ handed₀ rows out p handed =
-    Shown table rows out p
-    × Lent branches rows out
+Inv-loop s branches rows₀ out₀ p₀ handed₀ rows out p handed =
+    Shown s rows out p
+    × ReportLent branches rows out
     × (handed .place ≡ p .place)
     × (length rows ≡ length rows₀)
     × (length out ≡ length out₀)
 
 abbrev μ-loop : tie.MeasureT-loop
-μ-loop table branches rows₀ out₀ p₀ handed₀ rows out p handed = 9223372036854775808 - p .place
+μ-loop s branches rows₀ out₀ p₀ handed₀ rows out p handed = 9223372036854775808 - p .place
 
 first-requires : tie.Need-first-requires Inv-loop μ-loop
 first-requires c κs = c .before .before .before .before .before .before .pre

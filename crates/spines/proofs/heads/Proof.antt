@@ -1,6 +1,6 @@
 -- `heads` meets its contract: a refusal of 1 to 12 is handed on, and an accepted net goes on to 20 and the heads.
 use Rattle.tree.proofs.Begins.{admitted, refused-on, passed-on}
-use Rattle.spines.specs.Heads.{refusal}
+use Rattle.spines.specs.Heads.{headsRefusal}
 use borrow.Author.Needs.{needs}
 use Rattle.spines.proofs.heads.Statement.{statement}
 use Rattle.spines.proofs.heads.Tie as tie
@@ -24,7 +24,7 @@ returns : tie.Need-returns
 returns c =
     let accept-ensures = c .before .before .before .accept .ensures in
     let args = c .before .before .before .before .before .before .args in
-    refused-on (refusal (args .list .now)) (args .s .now) _ (rw (c .before .a .given .1) at accept-ensures)
+    refused-on (headsRefusal (args .list .now)) (args .s .now) _ (rw (c .before .a .given .1) at accept-ensures)
 
 same-length : tie.Need-same-length
 same-length c = search needs
@@ -35,7 +35,7 @@ returns-2 c =
     let accept-ensures = c .before .before .before .before .before .before .before .accept .ensures in
     let args = c .before .before .before .before .before .before .before .before .before .before .args in
     let p = rw (a2-given .1) at accept-ensures in
-    passed-on (refusal (args .list .now)) (args .s .now) _ _ p
+    passed-on (headsRefusal (args .list .now)) (args .s .now) _ _ p
     (rw (admitted (args .s .now) _ _ p .nodes) at (c .before .before .list-heads .ensures))
 
 pub heads-spec : {M : Type 1} → statement M

@@ -4,7 +4,7 @@
 use Prim.Native.Nat.{_-_, _≤_, _<_}
 use native.Mathlib.Omega.{arith}
 use borrow.Author.Needs.{needs}
-use Rattle.tree.specs.Grown.{Grown}
+use Rattle.tree.specs.work.Grown.{Grown}
 use Rattle.tree.proofs.Grown.{read-node, read-parent}
 use Rattle.spines.proofs.Backward.{Given}
 use Rattle.spines.proofs.SizeSweep.{Node, sizes-none, sizes-next, sizes-all, sizes-fit, size-fits, root-size}

@@ -1,7 +1,7 @@
 -- `table::lowered` meets its contract: below 2^33 the number is -1 - (2^33 - 1 - x), from there on x - 2^33.
 use mir.Syntax.{w64}
 use mir.ValLaws.{toZ-pos}
-use Rattle.table.specs.Signed.{up, down}
+use Rattle.table.specs.work.Diff.{up, down}
 use Rattle.table.proofs.Bits.{minus-fits, minus-is}
 use Prim.Native.Nat.{_-_}
 use mathlib.Core.Path.{refl}

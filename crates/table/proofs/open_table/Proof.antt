@@ -1,7 +1,7 @@
 -- `table::open_table` meets its contract: at each return the tests passed are the good conditions before it, in the
 -- paper's order, and the test taken refutes the next.
 use Rattle.table.specs.Refuse.{refused, passed}
-use Rattle.table.specs.Outcome.{refusal}
+use Rattle.table.specs.Outcome.{openingRefusal}
 use Rattle.table.proofs.Accepted.{past-header}
 use native.Mathlib.Omega.{arith}
 use borrow.Author.Needs.{needs}
@@ -103,7 +103,7 @@ returns-10 c =
     let if2-left = back .before .before .before .before .if2 .left in
     let if1-left = back .before .before .before .before .before .before .if1 .left in
     let args = back .before .before .before .before .before .before .before .before .args in
-    past-header refusal {s = args .s .now}
+    past-header openingRefusal {s = args .s .now}
     (record {
       long = if1-left;
       letters = (if2-left, if3-left, if4-left);

@@ -1,6 +1,6 @@
 -- `marks::along::hold` meets its contract. The loop's invariant: the rows behind and the rows ahead are the climb's,
 -- and the free ones behind are held. Short of t the climb stands at a node (`node-in`).
-use Rattle.arrays.specs.Filled.{at}
+use Rattle.arrays.specs.At.{at}
 use Rattle.marks.proofs.Climbing.{
   Taking,
   taking-start,

@@ -1,7 +1,7 @@
 -- `marks::along::measure` meets its contract. The loop's invariant: the rows behind and the rows ahead are the climb's,
 -- and the sums are those of the rows behind. The measure is the place, which falls at each step up. Short of t the
 -- climb stands at a node (`node-in`).
-use Rattle.arrays.specs.Filled.{at}
+use Rattle.arrays.specs.At.{at}
 use Rattle.marks.proofs.Climbing.{
   Measuring,
   measuring-start,
@@ -22,14 +22,14 @@ use Rattle.marks.proofs.along.measure.Statement.{statement}
 use Rattle.marks.proofs.along.measure.Tie as tie
 
 abbrev Inv-loop : tie.InvT-loop
-Inv-loop table marks parent half place x t v₀ length₀ free₀ v length free =
-    Measuring table marks parent half place x t v length free
+Inv-loop s marks parent half place x t v₀ length₀ free₀ v length free =
+    Measuring s marks parent half place x t v length free
 
 abbrev μ-loop : tie.MeasureT-loop
-μ-loop table marks parent half place x t v₀ length₀ free₀ v length free = at place v
+μ-loop s marks parent half place x t v₀ length₀ free₀ v length free = at place v
 
 loop-holds : tie.Need-loop-holds Inv-loop μ-loop
-loop-holds c = measuring-start (c .before .before .args .table .now) (c .before .before .pre .0)
+loop-holds c = measuring-start (c .before .before .args .s .now) (c .before .before .pre .0)
 
 node-in : (c : tie.In-loop Inv-loop μ-loop) → c .before .loop .v < 4096
 node-in c = along-fits (c .before .loop .inv .along) (c .loop-test .taken)
@@ -112,7 +112,7 @@ loop-again c =
     let args = back .before .before .before .args in
     let pre = back .before .before .before .pre in
     let q = ap (λ (z : ℕ). z / 2) (wide-ensures .0) in
-    measuring-step (args .table .now) (pre .1) loop-inv loop-test-taken q (c .wide2 .ensures .0)
+    measuring-step (args .s .now) (pre .1) loop-inv loop-test-taken q (c .wide2 .ensures .0)
     (long-ensures .0
     ∙ reads-length (pre .1 .stands _ (rw (← q) at (along-row (loop-inv .along) loop-test-taken))) row-at-ensures)
     (c .before .before .one-free .ensures)
@@ -120,7 +120,7 @@ loop-again c =
 returns : tie.Need-returns Inv-loop μ-loop
 returns c =
     let args = c .before .before .before .before .args in
-    measuring-end (args .table .now) (omega (arith, c .loop-test .left)) (c .before .loop .inv)
+    measuring-end (args .s .now) (omega (arith, c .loop-test .left)) (c .before .loop .inv)
 
 pub measure-spec : {M : Type 1} → statement M
 measure-spec =

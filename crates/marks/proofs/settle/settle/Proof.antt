@@ -1,6 +1,6 @@
 -- `marks::settle::settle` meets its contract: a refused acceptance is handed on, and an accepted net goes on to 13.
 use Rattle.tree.proofs.Begins.{admitted, refused-on, passed-on}
-use Rattle.marks.specs.Change.{refusal}
+use Rattle.marks.specs.Change.{changeRefusal}
 use borrow.Author.Needs.{needs}
 use Rattle.marks.proofs.settle.settle.Statement.{statement}
 use Rattle.marks.proofs.settle.settle.Tie as tie
@@ -18,14 +18,14 @@ settle-net-requires : tie.Need-settle-net-requires
 settle-net-requires c κs =
     let accept-ensures = c .before .before .before .before .accept .ensures in
     let args = c .before .before .before .before .before .before .before .args in
-    let A = admitted (args .table .now) _ _ (rw (c .before .before .o2 .given .1) at accept-ensures) in
+    let A = admitted (args .s .now) _ _ (rw (c .before .before .o2 .given .1) at accept-ensures) in
     (A .net .some, A .net .few)
 
 returns : tie.Need-returns
 returns c =
     let accept-ensures = c .before .before .before .accept .ensures in
     let args = c .before .before .before .before .before .before .args in
-    refused-on (refusal (args .marks .now)) (args .table .now) _ (rw (c .before .o .given .1) at accept-ensures)
+    refused-on (changeRefusal (args .marks .now)) (args .s .now) _ (rw (c .before .o .given .1) at accept-ensures)
 
 same-length : tie.Need-same-length
 same-length c = search needs
@@ -36,8 +36,8 @@ returns-2 c =
     let accept-ensures = c .before .before .before .before .before .before .before .accept .ensures in
     let args = c .before .before .before .before .before .before .before .before .before .before .args in
     let p = rw (o2-given .1) at accept-ensures in
-    passed-on (refusal (args .marks .now)) (args .table .now) _ _ p
-    (rw (admitted (args .table .now) _ _ p .nodes) at (c .before .before .settle-net .ensures))
+    passed-on (changeRefusal (args .marks .now)) (args .s .now) _ _ p
+    (rw (admitted (args .s .now) _ _ p .nodes) at (c .before .before .settle-net .ensures))
 
 pub settle-spec : {M : Type 1} → statement M
 settle-spec =

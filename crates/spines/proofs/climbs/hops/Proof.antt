@@ -2,7 +2,7 @@
 -- (`counted`).
 use Prim.Native.Nat.{_+_}
 use Rattle.tree.proofs.Meeting.{grown-hung}
-use Rattle.spines.specs.Parents.{HopsBy}
+use Rattle.spines.specs.work.Parents.{HopsBy}
 use Rattle.spines.proofs.HopsCounted.{hops-counted}
 use native.Mathlib.Omega.{arith}
 use borrow.Author.Needs.{needs}

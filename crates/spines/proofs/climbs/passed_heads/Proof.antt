@@ -1,6 +1,6 @@
 -- `passed_heads` meets its contract: the climb stands at v and has passed so many heads. Places fall along it.
-use Rattle.arrays.specs.Filled.{at}
-use Rattle.spines.specs.Work.{Climbable}
+use Rattle.arrays.specs.At.{at}
+use Rattle.spines.specs.work.Climbs.{HeadsClimbable}
 use Rattle.spines.proofs.HopsCounted.{
   Passing,
   passing-start,
@@ -17,7 +17,7 @@ use Rattle.spines.proofs.climbs.passed_heads.Tie as tie
 
 abbrev Inv-loop : tie.InvT-loop
 Inv-loop parent place head x t v₀ passed₀ v passed =
-    Climbable parent place head x t × ((k : Climbable parent place head x t) → Passing k v passed)
+    HeadsClimbable parent place head x t × ((k : HeadsClimbable parent place head x t) → Passing k v passed)
 
 abbrev μ-loop : tie.MeasureT-loop
 μ-loop parent place head x t v₀ passed₀ v passed = at place v

@@ -3,9 +3,9 @@
 use Prim.Native.Nat.{_-_, _<_}
 use native.Mathlib.Omega.{arith}
 use borrow.Author.Needs.{needs}
-use Rattle.tree.specs.Grown.{Grown}
+use Rattle.tree.specs.work.Grown.{Grown}
 use Rattle.tree.proofs.Grown.{read-node, read-parent}
-use Rattle.spines.specs.Work.{LeavesAll, Bests}
+use Rattle.spines.specs.work.Sweeps.{LeavesAll, BestChildren}
 use Rattle.spines.proofs.HeadSweep.{Heads, heads-one, heads-more, heads-all}
 use Rattle.spines.proofs.sweeps.follow_mains.Statement.{statement}
 use Rattle.spines.proofs.sweeps.follow_mains.Tie as tie
@@ -15,7 +15,7 @@ Inv-loop parent order place leaves main n head₀ i₀ head i =
     Heads n parent order i head
     × Grown n parent order place
     × LeavesAll n parent leaves
-    × Bests n parent leaves n main
+    × BestChildren n parent leaves n main
     × (0 < i)
 
 abbrev μ-loop : tie.MeasureT-loop

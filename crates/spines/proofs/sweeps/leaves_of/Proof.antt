@@ -4,11 +4,11 @@
 use Prim.Native.Nat.{_-_, _≤_, _<_}
 use native.Mathlib.Omega.{arith}
 use borrow.Author.Needs.{needs}
-use Rattle.arrays.specs.Filled.{at}
-use Rattle.tree.specs.Grown.{Grown}
+use Rattle.arrays.specs.At.{at}
+use Rattle.tree.specs.work.Grown.{Grown}
 use Rattle.tree.proofs.Grown.{read-node, read-parent}
 use Rattle.spines.specs.Spine.{Leaf}
-use Rattle.spines.specs.Parents.{Child}
+use Rattle.spines.specs.work.Parents.{Child}
 use Rattle.spines.proofs.Backward.{Given}
 use Rattle.spines.proofs.LeafSweep.{leaves-none, leaves-next, leaves-all, leaves-fit}
 use Rattle.spines.proofs.sweeps.leaves_of.Statement.{statement}

@@ -3,15 +3,15 @@
 use Prim.Native.Nat.{_-_, _≤_, _<_}
 use native.Mathlib.Omega.{arith}
 use borrow.Author.Needs.{needs}
-use Rattle.tree.specs.Grown.{Grown}
-use Rattle.spines.specs.Work.{Bests}
+use Rattle.tree.specs.work.Grown.{Grown}
+use Rattle.spines.specs.work.Sweeps.{BestChildren}
 use Rattle.spines.proofs.MainSweep.{bests-none, bests-more, bests-all, best-small, read-child}
 use Rattle.spines.proofs.sweeps.mains_of.Statement.{statement}
 use Rattle.spines.proofs.sweeps.mains_of.Tie as tie
 
 abbrev Inv-loop : tie.InvT-loop
 Inv-loop parent order place leaves n main₀ c₀ main c =
-    Bests n parent leaves c main × Grown n parent order place × (0 < c) × ((c ≤ n) × (n ≤ 4096))
+    BestChildren n parent leaves c main × Grown n parent order place × (0 < c) × ((c ≤ n) × (n ≤ 4096))
 
 abbrev μ-loop : tie.MeasureT-loop
 μ-loop parent order place leaves n main₀ c₀ main c = n - c

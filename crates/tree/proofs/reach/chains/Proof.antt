@@ -4,7 +4,8 @@ use Prim.Native.Nat.{_*_, _-_, _<_}
 use mathlib.Core.Path.{_≡_, refl}
 use native.Mathlib.Omega.{arith}
 use Rattle.tree.specs.Net.{firstEnd, secondEnd}
-use Rattle.tree.specs.Work.{Readable, Chained}
+use Rattle.tree.specs.work.Rows.{Readable}
+use Rattle.tree.specs.work.Chains.{Chained}
 use Rattle.tree.proofs.Chains.{from-fits, chained-none, chained-more, chained-all}
 use borrow.Author.Needs.{needs}
 use Rattle.tree.proofs.reach.chains.Statement.{statement}

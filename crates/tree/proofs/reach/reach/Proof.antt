@@ -3,7 +3,9 @@
 use Prim.Native.Nat.{_*_, _-_, _<_}
 use native.Mathlib.Omega.{arith}
 use Rattle.tree.specs.Net.{firstEnd, secondEnd}
-use Rattle.tree.specs.Work.{Readable, Chained, Outer}
+use Rattle.tree.specs.work.Rows.{Readable}
+use Rattle.tree.specs.work.Chains.{Chained}
+use Rattle.tree.specs.work.Queue.{Outer}
 use Rattle.tree.proofs.Queue.{queue-one}
 use Rattle.tree.proofs.Walked.{walked}
 use Rattle.tree.proofs.reach.reach.Statement.{statement}

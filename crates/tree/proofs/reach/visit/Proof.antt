@@ -3,9 +3,9 @@
 use Prim.Native.Nat.{_-_, _<_}
 use mathlib.Core.Logic.{⊎-elim}
 use native.Mathlib.Omega.{arith}
-use Rattle.arrays.specs.Filled.{at}
+use Rattle.arrays.specs.At.{at}
 use Rattle.tree.specs.Net.{firstEnd, secondEnd}
-use Rattle.tree.specs.Work.{Readable}
+use Rattle.tree.specs.work.Rows.{Readable}
 use Rattle.tree.proofs.Queue.{Going, going-start, going-keep, going-room, going-push, inner-end, leads-place}
 use borrow.Author.Needs.{needs}
 use Rattle.tree.proofs.reach.visit.Statement.{statement}

@@ -2,8 +2,8 @@
 use Prim.Native.Nat.{_-_, _<_}
 use mathlib.Core.Path.{sym, _∙_}
 use native.Mathlib.Omega.{arith}
-use Rattle.arrays.specs.Filled.{at}
-use Rattle.tree.specs.Work.{Climb, here, Rises}
+use Rattle.arrays.specs.At.{at}
+use Rattle.tree.specs.work.Union.{Climb, here, Rises}
 use Rattle.tree.proofs.Union.{climb-more}
 use borrow.Author.Needs.{needs}
 use Rattle.tree.proofs.ring.find.Statement.{statement}

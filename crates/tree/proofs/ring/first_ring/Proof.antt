@@ -2,7 +2,7 @@
 use Prim.Native.Nat.{_-_}
 use native.Mathlib.Omega.{arith}
 use Rattle.tree.specs.Net.{firstEnd, secondEnd}
-use Rattle.tree.specs.Work.{Readable}
+use Rattle.tree.specs.work.Rows.{Readable}
 use Rattle.tree.proofs.Union.{Seen, seen-none, seen-more, seen-ring, rises-more}
 use borrow.Author.Needs.{needs}
 use Rattle.tree.proofs.ring.first_ring.Statement.{statement}

@@ -2,7 +2,7 @@
 use Prim.Native.Nat.{_-_, _≤_}
 use mathlib.Core.Path.{_≡_}
 use native.Mathlib.Omega.{arith}
-use Rattle.tree.specs.Work.{Numbered}
+use Rattle.tree.specs.work.Union.{Numbered}
 use Rattle.tree.proofs.Union.{numbered-none, numbered-more}
 use borrow.Author.Needs.{needs}
 use Rattle.tree.proofs.ring.number.Statement.{statement}

@@ -1,6 +1,6 @@
 -- `count_round` meets its contract: from x, on the climb from the row's second end, g - 1 rows lead back to that end.
 use native.Mathlib.Omega.{arith}
-use Rattle.arrays.specs.Filled.{at}
+use Rattle.arrays.specs.At.{at}
 use Rattle.tree.specs.Net.{firstEnd, secondEnd}
 use Rattle.tree.proofs.Begins.{readable-less}
 use Rattle.tree.proofs.Around.{Rounding, round-start, round-fits, round-less, round-more, round-end}

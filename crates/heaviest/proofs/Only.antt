@@ -1,0 +1,76 @@
+-- The promise of heaviest allows one outcome, under any length test: of two heaviest runs each is at least as good as
+-- the other, so they agree in weight, length and pair.
+use Prim.Native.Nat.{ℕ, _<_}
+use mathlib.Core.Path.{_≡_, sym, ap, _∙_}
+use mathlib.Core.List.{List}
+use native.Mathlib.Omega.{arith}
+use native.Mathlib.Decide.{decLt}
+use lib.Dec.{leb→le}
+use lib.IntN.{ℤ, pos, negsuc}
+use lib.Signed.{_≤ℤ_}
+use Rattle.table.specs.Refuse.{Only}
+use Rattle.table.specs.Header.{nodesOf}
+use Rattle.table.proofs.Refusals.{unless-only}
+use Rattle.tree.proofs.Begins.{begins-only}
+use Rattle.pages.specs.Listing.{Entry, Before, first, second}
+use Rattle.heaviest.specs.Heaviest.{
+  heaviestRefusal,
+  heaviestFound,
+  AtLeast,
+  Heaviest,
+  GivesHeaviest,
+  Chooses,
+  HeaviestWithin,
+  HeaviestOf,
+  HeaviestExactOf,
+}
+
+pub level : (y z : ℤ) → y ≤ℤ z → z ≤ℤ y → y ≡ z
+level (pos m) (pos n) h k = ap pos (omega (arith, leb→le m n (h .le), leb→le n m (k .le)))
+level (pos m) (negsuc n) h k = absurd (h .le)
+level (negsuc m) (pos n) h k = absurd (k .le)
+level (negsuc m) (negsuc n) h k = ap negsuc (omega (arith, leb→le n m (h .le), leb→le m n (k .le)))
+
+-- neither before the other
+one-pair : (e f : Entry) → ¬ Before e f → ¬ Before f e → (e .low ≡ f .low) × (e .high ≡ f .high)
+one-pair e f m o = pick (decLt (e .low) (f .low)) (decLt (f .low) (e .low))
+  where
+    pick : Dec (e .low < f .low) → Dec (f .low < e .low) → (e .low ≡ f .low) × (e .high ≡ f .high)
+    pick (yes h) d = absurd (m (first h))
+    pick (no h) (yes k) = absurd (o (first k))
+    pick (no h) (no k) = (low, seconds (decLt (e .high) (f .high)) (decLt (f .high) (e .high)))
+      where
+        low : e .low ≡ f .low
+        low = omega arith
+
+        seconds : Dec (e .high < f .high) → Dec (f .high < e .high) → e .high ≡ f .high
+        seconds (yes i) d = absurd (m (second low i))
+        seconds (no i) (yes j) = absurd (o (second (sym low) j))
+        seconds (no i) (no j) = omega arith
+
+pub heaviest-run-only : (P : Entry → Type 0) → Only (Heaviest P)
+heaviest-run-only P e f p q =
+    let a : AtLeast e f = p .best f (q .one) in
+    let b : AtLeast f e = q .best e (p .one) in
+    let w : e .weight ≡ f .weight = level (e .weight) (f .weight) (b .weight) (a .weight) in
+    let l : e .length ≡ f .length = omega (arith, a .length (sym w), b .length w) in
+    let c = one-pair e f (b .pair w l) (a .pair (sym w) (sym l)) in
+    λ i. record { low = c .0 i; high = c .1 i; length = l i; weight = w i }
+
+gives-only : (P : Entry → Type 0) → Only (GivesHeaviest P)
+gives-only P x y p q =
+    p .is ∙ ap heaviestFound (heaviest-run-only P (p .run) (q .run) (p .heaviest) (q .heaviest)) ∙ sym (q .is)
+
+pub goes-only : (none : ℕ) (Within : ℕ → Type 0) (s : List ℕ) (n : ℕ) (marks : List ℕ)
+    → Only (Chooses none Within s n marks)
+goes-only none Within s n marks = unless-only (unless-only (gives-only _))
+
+pub heaviest-within-only : (none : ℕ) (Within : ℕ → Type 0) (s marks : List ℕ)
+    → Only (HeaviestWithin none Within s marks)
+heaviest-within-only none Within s marks = begins-only heaviestRefusal s (goes-only none Within s (nodesOf s) marks)
+
+pub heaviest-only : (s marks : List ℕ) → Only (HeaviestOf s marks)
+heaviest-only s = heaviest-within-only 16 _ s
+
+pub heaviest-exact-only : (s marks : List ℕ) → Only (HeaviestExactOf s marks)
+heaviest-exact-only s = heaviest-within-only 21 _ s

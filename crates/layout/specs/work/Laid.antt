@@ -1,0 +1,47 @@
+-- Working statements of the private functions of laid.rt and lib.rt, and no part of the promises: arrays by spot.
+use Prim.Native.Nat.{ℕ, _+_, _≤_, _<_}
+use mathlib.Core.Path.{_≡_}
+use mathlib.Core.Logic.{_≢_}
+use mathlib.Core.List.{List}
+use lib.ListN.{length}
+use Rattle.arrays.specs.At.{at}
+use Rattle.spines.specs.work.Parents.{HeadsAll, SizesAll}
+use Rattle.paths.specs.work.Ground.{Ground}
+use Rattle.paths.specs.work.Paths.{Paths}
+use Rattle.layout.specs.work.Seats.{Seating}
+
+-- n nodes, each with a spot of its own
+pub record Spots (n : ℕ) (spot : List ℕ) : Type 0 where
+  pub some : 0 < n
+  pub small : n ≤ 4096
+  pub within : (v : ℕ) → v < n → at spot v < n
+  pub one : (x y : ℕ) → x < n → y < n → at spot x ≡ at spot y → x ≡ y
+
+-- the nodes from lo to i have put what f gives for them at their spots, and elsewhere is 0
+pub record Laid (lo i : ℕ) (spot : List ℕ) (f : ℕ → ℕ) (to : List ℕ) : Type 0 where
+  pub long : length to ≡ 4096
+  pub each : (v : ℕ) → lo ≤ v → v < i → at to (at spot v) ≡ f v
+  pub rest : (s : ℕ) → s < 4096 → ((v : ℕ) → lo ≤ v → v < i → at spot v ≢ s) → at to s ≡ 0
+
+-- the ends, heads, parents and names of all spots
+pub record Numbering (n : ℕ) (parent place spot stops heads parents names : List ℕ) : Type 0 where
+  pub head : List ℕ
+  pub size : List ℕ
+  pub next : List ℕ
+  pub headed : HeadsAll n parent head
+  pub sized : SizesAll n parent size
+  pub seated : Seating n parent place head size n spot next
+  pub ended : Laid 0 n spot (λ v. at spot v + at size v) stops
+  pub top : Laid 1 n spot (λ v. at spot (at head v)) heads
+  pub above : Laid 1 n spot (λ v. at spot (at parent v)) parents
+  pub named : Laid 0 n spot (λ v. v) names
+
+-- and the distances and lifted weights from the root, by spot: d and w are those of the nodes
+pub record LaidOut (n : ℕ) (parent order place bl bw stops heads parents names far heavy : List ℕ) : Type 0 where
+  pub spot : List ℕ
+  pub d : List ℕ
+  pub w : List ℕ
+  pub numbering : Numbering n parent place spot stops heads parents names
+  pub paths : (g : Ground n parent order place bl bw) → Paths g 0 d w
+  pub distances : Laid 0 n spot (λ v. at d v) far
+  pub weights : Laid 0 n spot (λ v. at w v) heavy

@@ -1,0 +1,51 @@
+-- HOLDERS NEVER SHOW: two sets of marks of one number, free at the same places, give equal outcomes of the listing,
+-- whoever the holders are.
+use Prim.Native.Nat.{ℕ}
+use mathlib.Core.Path.{_≡_}
+use mathlib.Core.List.{List}
+use lib.IntN.{ℤ}
+use lib.ListN.{length}
+use Rattle.table.specs.Header.{nodesOf}
+use Rattle.table.proofs.Refusals.{unless-map}
+use Rattle.tree.proofs.Begins.{begins-alike}
+use Rattle.marks.proofs.Weights.{Alike}
+use Rattle.pages.specs.Passes.{Qualifies}
+use Rattle.pages.proofs.Pages.{page-iff}
+use Rattle.ground.specs.PathOf.{PathOf}
+use Rattle.ground.proofs.Alike.{passes-alike, flip}
+use Rattle.listing.specs.Listing.{ListingOutcome, listingRefusal, GivesPage, GoesOn, ListingWithin}
+use Rattle.listing.proofs.Only.{goes-only}
+
+page-alike : (s marks marks′ : List ℕ) → Alike marks marks′
+    → (Within : ℕ → Type 0) (floor : ℤ) (n low high : ℕ) (old : List ℕ) {x : ListingOutcome}
+    → GivesPage (Qualifies (PathOf s marks n) Within floor n) low high old x
+    → GivesPage (Qualifies (PathOf s marks′ n) Within floor n) low high old x
+page-alike s marks marks′ h Within floor n low high old p =
+    record {
+      taken = p .taken;
+      number = p .number;
+      row = p .row;
+      ring = p .ring;
+      page = record {
+        some = p .page .some;
+        page = page-iff (passes-alike s marks marks′ h n) (passes-alike s marks′ marks (flip marks marks′ h) n)
+            (p .page .page);
+        count = p .page .count;
+        bytes = p .page .bytes;
+      };
+    }
+
+goes-alike : (s marks marks′ : List ℕ) → Alike marks marks′ → length marks ≡ length marks′
+    → (Within : ℕ → Type 0) (floor : ℤ) (n low high : ℕ) (old : List ℕ) {x : ListingOutcome}
+    → GoesOn Within s n marks floor low high old x → GoesOn Within s n marks′ floor low high old x
+goes-alike s marks marks′ h e Within floor n low high old p =
+    rw (← e)
+    (unless-map (λ o. o) (λ _. unless-map (λ o. o) (λ _. page-alike s marks marks′ h Within floor n low high old)) p)
+
+pub holders-never-show : (Within : ℕ → Type 0) (s marks marks′ : List ℕ) → Alike marks marks′
+    → length marks ≡ length marks′ → (floor : ℤ) (low high : ℕ) (old : List ℕ) (x y : ListingOutcome)
+    → ListingWithin Within s marks floor low high old x → ListingWithin Within s marks′ floor low high old y → x ≡ y
+holders-never-show Within s marks marks′ h e floor low high old =
+    begins-alike (listingRefusal old) s
+    (λ _ x y p q. goes-only Within s (nodesOf s) marks′ floor low high old x y
+    (goes-alike s marks marks′ h e Within floor (nodesOf s) low high old p) q)

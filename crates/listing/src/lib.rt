@@ -1,0 +1,104 @@
+// The operations listing and listing_exact: the pairs within the bound, or of exactly its length, at or above a floor,
+// a page at a time.
+mod scan;
+
+ghost use Rattle.table.specs.Header.{boundOf};
+ghost use Rattle.tree.specs.work.Net.{Net};
+ghost use Rattle.limits.specs.work.Fits.{Within, Fits};
+ghost use Rattle.listing.specs.Listing.{listingOutcome, GoesOn, ListingWithin, ListingOf, ListingExactOf};
+use limits::Limit;
+use tree::Acceptance;
+use tree::Refusal;
+
+// What a listing gives: the rows written and the rows left over, or why not.
+pub enum Listed {
+    Rows { written: usize, left: usize },
+    Refused(Refusal),
+}
+
+// The pairs strictly after (low, high), within the bound and weighing at least the floor: as many rows of 16 bytes as
+// fit.
+pub fn listing(s: &[u8], marks: &[u16], floor: i64, low: u16, high: u16, rows: &mut [u8]) -> Listed
+    ensures { λ r. ⌜ ListingOf (now (s .entry)) (now (marks .entry)) floor low high (now (rows .entry))
+        (listingOutcome r (now (rows .exit))) ⌝ }
+{
+    listing_in_mode(s, marks, false, floor, low, high, rows)
+}
+
+// The same of the pairs of exactly the bound's length.
+pub fn listing_exact(
+    s: &[u8],
+    marks: &[u16],
+    floor: i64,
+    low: u16,
+    high: u16,
+    rows: &mut [u8],
+) -> Listed
+    ensures { λ r. ⌜ ListingExactOf (now (s .entry)) (now (marks .entry)) floor low high (now (rows .entry))
+        (listingOutcome r (now (rows .exit))) ⌝ }
+{
+    listing_in_mode(s, marks, true, floor, low, high, rows)
+}
+
+// Both: whether the bound is meant exactly.
+fn listing_in_mode(
+    s: &[u8],
+    marks: &[u16],
+    exact: bool,
+    floor: i64,
+    low: u16,
+    high: u16,
+    rows: &mut [u8],
+) -> Listed
+    ensures { λ r. ⌜ ListingWithin (Within exact (boundOf (now (s .entry)))) (now (s .entry)) (now (marks .entry)) floor
+        low high (now (rows .entry)) (listingOutcome r (now (rows .exit))) ⌝ }
+{
+    let o = tree::accept(s);
+    match o {
+        Acceptance::Refused(why) => Listed::Refused(why),
+        Acceptance::Accepted { nodes, bound } => {
+            let most = arrays::long(bound);
+            let limit = Limit {
+                most: most,
+                exact: exact,
+            };
+            go_on(s, marks, nodes, limit, floor, low, high, rows)
+        }
+    }
+}
+
+// 13 and 17, then the page, of an accepted net.
+fn go_on(
+    s: &[u8],
+    marks: &[u16],
+    nodes: u16,
+    limit: Limit,
+    floor: i64,
+    low: u16,
+    high: u16,
+    rows: &mut [u8],
+) -> Listed
+    requires { ⌜ Net (now s) nodes ⌝ }
+    ensures { λ r. ⌜ GoesOn (Fits limit) (now (s .entry)) nodes (now (marks .entry)) floor low high (now (rows .entry))
+        (listingOutcome r (now (rows .exit))) ⌝ }
+{
+    let n = arrays::wide(nodes);
+    if marks.len() != n - 1 {
+        return Listed::Refused(Refusal {
+            number: 13,
+            row: 0,
+            ring: 0,
+        });
+    }
+    if rows.len() < 16 {
+        return Listed::Refused(Refusal {
+            number: 17,
+            row: 0,
+            ring: 0,
+        });
+    }
+    let k = scan::page(s, marks, nodes, limit, floor, low, high, rows);
+    let written = k.given;
+    let left = k.left;
+    Listed::Rows { written, left }
+}

@@ -1,9 +1,0 @@
-// Lists of places, sorted by a key: two neighbouring runs of a list made one (sorted.rt), and the best pair of places
-// across two runs (across.rt). Nothing here knows a tree.
-mod across;
-mod sorted;
-
-pub use across::Best;
-pub use across::join;
-pub use sorted::copy;
-pub use sorted::merge;

@@ -1,0 +1,6 @@
+-- Laws and theorems of the operation pair, by topic.
+pub mod Shown
+pub mod Only
+pub mod AnswerOnly
+pub mod Theorems
+pub mod Holders

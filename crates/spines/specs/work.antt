@@ -1,0 +1,5 @@
+-- Working statements: what functions promise each other, and no part of an operation's promise.
+pub mod Climbs
+pub mod Copy
+pub mod Parents
+pub mod Sweeps

@@ -1,0 +1,42 @@
+-- The sweeps: leaf counts, and the main children as the sweep over node numbers finds them.
+use Prim.Native.Nat.{ℕ, _≤_, _<_}
+use mathlib.Core.Path.{_≡_}
+use mathlib.Core.Logic.{_≢_}
+use mathlib.Core.List.{List}
+use lib.ListN.{length}
+use Rattle.arrays.specs.At.{at}
+use Rattle.spines.specs.Spine.{Leaves}
+use Rattle.spines.specs.work.Parents.{Child}
+
+-- how many leaves are below each node
+pub record LeavesAll (n : ℕ) (parent leaves : List ℕ) : Type 0 where
+  pub long : length leaves ≡ 4096
+  pub each : (t : ℕ) → t < n → Leaves (Child n (at parent)) n t (at leaves t)
+
+-- a node with no leaves strictly below it is one
+pub record Least (x w : ℕ) : Type 0 where
+  pub none : x ≡ 0 → w ≡ 1
+  pub some : x ≢ 0 → w ≡ x
+
+-- q is the best of p's children below c, or 4096 where there is none
+pub record BestChild (n : ℕ) (par leaves : ℕ → ℕ) (c p q : ℕ) : Type 0 where
+  pub none : q ≡ 4096 → (d : ℕ) → d < c → ¬ Child n par p d
+  pub below : q ≢ 4096 → q < c
+  pub child : q ≢ 4096 → Child n par p q
+  pub most : q ≢ 4096 → (d : ℕ) → d < c → Child n par p d → (leaves d ≤ leaves q) × (leaves d ≡ leaves q → q ≤ d)
+
+pub record BestChildren (n : ℕ) (parent leaves : List ℕ) (c : ℕ) (main : List ℕ) : Type 0 where
+  pub long : length main ≡ 4096
+  pub each : (p : ℕ) → p < n → BestChild n (at parent) (at leaves) c p (at main p)
+
+-- c takes the place of q where it is better
+pub record MainTaken (leaves : List ℕ) (q c r : ℕ) : Type 0 where
+  pub first : q ≡ 4096 → r ≡ c
+  pub more : q ≢ 4096 → at leaves q < at leaves c → r ≡ c
+  pub less : q ≢ 4096 → at leaves c ≤ at leaves q → r ≡ q
+  pub small : r ≤ 4096
+
+-- v's head: its parent's where v is the parent's main child, and else its own
+pub record Follows (v q h r : ℕ) : Type 0 where
+  pub same : q ≡ v → r ≡ h
+  pub own : q ≢ v → r ≡ v
