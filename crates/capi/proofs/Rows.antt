@@ -1,4 +1,4 @@
--- The row that an outcome names is below 4,096 and its ring has no more rows than that, so that both fit a signed
+-- The row that a refusal names is below 4,096 and its ring has no more rows than that, so that both fit a signed
 -- number: a refusal of 1 to 12 names a row of the table, or 0, and a ring has rows up to the row named alone; an
 -- operation's own refusals, from 13 on, and what it gives name none.
 use Prim.Native.Nat.{ℕ}
@@ -6,16 +6,27 @@ use mathlib.Core.List.{List}
 use native.Mathlib.Omega.{arith}
 use lib.IntN.{ℤ}
 use Rattle.table.specs.Refuse.{Unless}
-use Rattle.tree.specs.Accept.{AcceptanceOutcome, Accepts, acceptanceRefusal}
+use Rattle.tree.specs.Accept.{Accepts, acceptanceRefusal}
+use Rattle.tree.specs.declared.Acceptance.{Acceptance}
 use Rattle.tree.proofs.Outcomes.{Told, by-unless, by-beginning}
-use Rattle.spines.specs.Heads.{HeadsOutcome, Headings, headsRefusal}
-use Rattle.marks.specs.Change.{ChangeOutcome, Settles, changeRefusal}
+use Rattle.spines.specs.Heads.{Heads, Headings, headsRefusal}
+use Rattle.spines.specs.declared.HeadsAnswer.{HeadsAnswer}
+use Rattle.spines.specs.declared.HeadsAnswer.the-variants as heads
+use Rattle.marks.specs.Change.{Done, Settles, changeRefusal}
+use Rattle.marks.specs.declared.Change.{Change}
+use Rattle.marks.specs.declared.Change.the-variants as change
 use Rattle.marks.specs.Claim.{Claims}
-use Rattle.pair.specs.Pair.{PairOutcome, PairOf, pairRefusal}
-use Rattle.heaviest.specs.Heaviest.{HeaviestOutcome, HeaviestWithin, heaviestRefusal}
-use Rattle.listing.specs.Listing.{ListingOutcome, ListingWithin, listingRefusal}
+use Rattle.pair.specs.Pair.{ShowsPath, PairOf, pairRefusal}
+use Rattle.pair.specs.declared.PairAnswer.{PairAnswer}
+use Rattle.pair.specs.declared.PairAnswer.the-variants as pair
+use Rattle.heaviest.specs.Heaviest.{GivesHeaviest, HeaviestWithin, heaviestRefusal}
+use Rattle.heaviest.specs.declared.HeaviestAnswer.{HeaviestAnswer}
+use Rattle.heaviest.specs.declared.HeaviestAnswer.the-variants as heaviest
+use Rattle.listing.specs.Listing.{GivesPage, ListingWithin, listingRefusal}
+use Rattle.listing.specs.declared.Listed.{Listed}
+use Rattle.listing.specs.declared.Listed.the-variants as listing
 use Rattle.listing.proofs.Few.{listing-few}
-use Rattle.eight.specs.work.Room.{Room, Storable}
+use Rattle.eight.specs.work.Room.{Room, AcceptanceRoom, PairRoom, HeaviestRoom, HeadsRoom, PageRoom, ChangeRoom}
 
 nowhere : Room 0 0
 nowhere = record { low = omega arith; few = omega arith }
@@ -29,48 +40,69 @@ own : {A : Type 0} (C : A → Type 0) {no : A} {Ok : Type 0} {rest : A → Type 
     → (x : A) → Unless A no Ok rest x → C x
 own C n f x p = by-unless C n (λ _. f) p
 
-pub accept-low : (s : List ℕ) (x : AcceptanceOutcome) → Accepts s x → Room (x .row) (x .ring)
-accept-low s x p = by-beginning (λ o. Room (o .row) (o .ring)) acceptanceRefusal s told (λ o e. rw e nowhere) p
+pub accept-low : (s : List ℕ) (x : Acceptance) → Accepts s x → AcceptanceRoom x
+accept-low s x p = by-beginning AcceptanceRoom acceptanceRefusal s told (λ o e. rw e tt) p
 
-pub pair-low : (s marks : List ℕ) (a b : ℕ) (x : PairOutcome) → PairOf s marks a b x → Room (x .row) (x .ring)
-pair-low s marks a b x p =
-    let C : PairOutcome → Type 0 = λ o. Room (o .row) (o .ring) in
-    by-beginning C pairRefusal s told (own C nowhere (own C nowhere (λ _ h. rw (h .row, h .ring) nowhere))) p
+pub pair-low : (s marks : List ℕ) (a b : ℕ) (x : PairAnswer) → PairOf s marks a b x → PairRoom x
+pair-low s marks a b x p = by-beginning PairRoom pairRefusal s told (own PairRoom nowhere (own PairRoom nowhere (found _))) p
+  where
+    found : (n : ℕ) (x : PairAnswer) → ShowsPath s marks n a b x → PairRoom x
+    found n (pair.Found l w h) q = tt
+    found n (pair.Refused why) q = absurd q
 
-pub heaviest-low : (none : ℕ) (Within : ℕ → Type 0) (s marks : List ℕ) (x : HeaviestOutcome)
-    → HeaviestWithin none Within s marks x → Room (x .row) (x .ring)
+pub heaviest-low : (none : ℕ) (Within : ℕ → Type 0) (s marks : List ℕ) (x : HeaviestAnswer)
+    → HeaviestWithin none Within s marks x → HeaviestRoom x
 heaviest-low none Within s marks x p =
-    let C : HeaviestOutcome → Type 0 = λ o. Room (o .row) (o .ring) in
-    by-beginning C heaviestRefusal s told (own C nowhere (own C nowhere (λ _ h. rw (h .is) nowhere))) p
+    by-beginning HeaviestRoom heaviestRefusal s told
+    (own HeaviestRoom nowhere (own HeaviestRoom nowhere (found _))) p
+  where
+    found : (P : _) (x : HeaviestAnswer) → GivesHeaviest P x → HeaviestRoom x
+    found P (heaviest.Between a b l w) q = tt
+    found P (heaviest.Refused why) q = absurd q
 
-pub heads-low : (s before : List ℕ) (x : HeadsOutcome) → Headings s before x → Room (x .row) (x .ring)
+pub heads-low : (s before : List ℕ) (x : HeadsAnswer × List ℕ) → Headings s before x → HeadsRoom (x .0)
 heads-low s before x p =
-    let C : HeadsOutcome → Type 0 = λ o. Room (o .row) (o .ring) in
-    by-beginning C (headsRefusal before) s told (own C nowhere (λ _ h. rw (h .is) nowhere)) p
+    let C : HeadsAnswer × List ℕ → Type 0 = λ o. HeadsRoom (o .0) in
+    by-beginning C (headsRefusal before) s told (own C nowhere (written _)) p
+  where
+    written : (n : ℕ) (x : HeadsAnswer × List ℕ) → Heads s n x → HeadsRoom (x .0)
+    written n (heads.Written, list) q = tt
+    written n (heads.Refused why, list) q = absurd q
 
 -- of a listing the counts fit too
-pub listing-storable :
-    (Within : ℕ → Type 0) (s marks : List ℕ) (floor : ℤ) (low high : ℕ) (old : List ℕ) (x : ListingOutcome)
-    → ListingWithin Within s marks floor low high old x → Storable x
-listing-storable Within s marks floor low high old x p =
-    let C : ListingOutcome → Type 0 = λ o. Room (o .row) (o .ring) in
-    record {
-      room =
-          by-beginning C (listingRefusal old) s told
-          (own C nowhere (own C nowhere (λ _ h. rw (h .row, h .ring) nowhere))) p;
-      counts = λ z. omega (arith, listing-few Within s marks floor low high old x z p);
-    }
+pub listing-low :
+    (Within : ℕ → Type 0) (s marks : List ℕ) (floor : ℤ) (low high : ℕ) (old : List ℕ) (x : Listed × List ℕ)
+    → ListingWithin Within s marks floor low high old x → PageRoom (x .0)
+listing-low Within s marks floor low high old x p = counted x p (by-beginning C (listingRefusal old) s told
+    (own C nowhere (own C nowhere (given _))) p)
+  where
+    -- a refusal's room alone
+    C : Listed × List ℕ → Type 0
+    C (listing.Rows written left, now) = Unit {0}
+    C (listing.Refused why, now) = Room (why .row) (why .ring)
+
+    given : (P : _) (x : Listed × List ℕ) → GivesPage P low high old x → C x
+    given P (listing.Rows written left, now) q = tt
+    given P (listing.Refused why, now) q = absurd q
+
+    counted : (x : Listed × List ℕ) → ListingWithin Within s marks floor low high old x → C x → PageRoom (x .0)
+    counted (listing.Rows written left, now) p r = omega (arith, listing-few Within s marks floor low high old p)
+    counted (listing.Refused why, now) p r = r
 
 -- commit and abort
-pub settle-low : (m : ℕ) (s before : List ℕ) (run : ℕ) (x : ChangeOutcome) → Settles m s before run x
-    → Room (x .row) (x .ring)
-settle-low m s before run x p =
-    let C : ChangeOutcome → Type 0 = λ o. Room (o .row) (o .ring) in
-    by-beginning C (changeRefusal before) s told (own C nowhere (own C nowhere (λ _ h. rw (h .is) nowhere))) p
+changed : (P : ℕ → Type 0) (m : ℕ) (before : List ℕ) (x : Change × List ℕ) → Done P m before x → ChangeRoom (x .0)
+changed P m before (change.Changed k, after) q = tt
+changed P m before (change.Refused why, after) q = absurd q
 
-pub claim-low : (s before : List ℕ) (run a b : ℕ) (x : ChangeOutcome) → Claims s before run a b x
-    → Room (x .row) (x .ring)
+pub settle-low : (m : ℕ) (s before : List ℕ) (run : ℕ) (x : Change × List ℕ) → Settles m s before run x
+    → ChangeRoom (x .0)
+settle-low m s before run x p =
+    let C : Change × List ℕ → Type 0 = λ o. ChangeRoom (o .0) in
+    by-beginning C (changeRefusal before) s told (own C nowhere (own C nowhere (changed _ m before))) p
+
+pub claim-low : (s before : List ℕ) (run a b : ℕ) (x : Change × List ℕ) → Claims s before run a b x
+    → ChangeRoom (x .0)
 claim-low s before run a b x p =
-    let C : ChangeOutcome → Type 0 = λ o. Room (o .row) (o .ring) in
+    let C : Change × List ℕ → Type 0 = λ o. ChangeRoom (o .0) in
     by-beginning C (changeRefusal before) s told
-    (own C nowhere (own C nowhere (own C nowhere (own C nowhere (own C nowhere (λ _ h. rw (h .is) nowhere)))))) p
+    (own C nowhere (own C nowhere (own C nowhere (own C nowhere (own C nowhere (changed _ run before)))))) p

@@ -1,40 +1,52 @@
--- Each operation's outcome in C: number, row and ring, the fields in order, and the lent memory.
-use mathlib.Core.List.{[]}
+-- Each operation's answer in C: number, row and ring, the fields in order, and the lent memory.
+use Prim.Native.Nat.{ℕ}
+use mathlib.Core.List.{List, []}
 use lib.IntN.{pos}
-use Rattle.tree.specs.Accept.{AcceptanceOutcome}
-use Rattle.spines.specs.Heads.{HeadsOutcome}
-use Rattle.marks.specs.Change.{ChangeOutcome}
-use Rattle.pair.specs.Pair.{PairOutcome}
-use Rattle.heaviest.specs.Heaviest.{HeaviestOutcome}
-use Rattle.listing.specs.Listing.{ListingOutcome}
+use Rattle.tree.specs.declared.Refusal.{Refusal}
+use Rattle.tree.specs.declared.Acceptance.{Acceptance}
+use Rattle.tree.specs.declared.Acceptance.the-variants as acceptance
+use Rattle.spines.specs.declared.HeadsAnswer.{HeadsAnswer}
+use Rattle.spines.specs.declared.HeadsAnswer.the-variants as heads
+use Rattle.marks.specs.declared.Change.{Change}
+use Rattle.marks.specs.declared.Change.the-variants as change
+use Rattle.pair.specs.declared.PairAnswer.{PairAnswer}
+use Rattle.pair.specs.declared.PairAnswer.the-variants as pair
+use Rattle.heaviest.specs.declared.HeaviestAnswer.{HeaviestAnswer}
+use Rattle.heaviest.specs.declared.HeaviestAnswer.the-variants as heaviest
+use Rattle.listing.specs.declared.Listed.{Listed}
+use Rattle.listing.specs.declared.Listed.the-variants as listing
 use Rattle.eight.specs.Call.{Call, inC}
 
+-- a refusal: its number, row and ring, zeros elsewhere
+abbrev pub refusalInC : Refusal → List ℕ → Call
+refusalInC why = inC (why .number) (why .row) (why .ring) (pos 0) (pos 0) (pos 0) (pos 0)
+
 -- nodes, bound
-abbrev pub acceptanceInC : AcceptanceOutcome → Call
-acceptanceInC o =
-    inC (o .number) (o .row) (o .ring) (pos (o .nodes)) (pos (o .bound)) (pos 0) (pos 0) []
+abbrev pub acceptanceInC : Acceptance → Call
+acceptanceInC (acceptance.Accepted nodes bound) = inC 0 0 0 (pos nodes) (pos bound) (pos 0) (pos 0) []
+acceptanceInC (acceptance.Refused why) = refusalInC why []
 
 -- length, weight, hops
-abbrev pub pairInC : PairOutcome → Call
-pairInC o =
-    inC (o .number) (o .row) (o .ring) (pos (o .length)) (o .weight) (pos (o .hops)) (pos 0) []
+abbrev pub pairInC : PairAnswer → Call
+pairInC (pair.Found length weight hops) = inC 0 0 0 (pos length) weight (pos hops) (pos 0) []
+pairInC (pair.Refused why) = refusalInC why []
 
 -- low, high, length, weight
-abbrev pub heaviestInC : HeaviestOutcome → Call
-heaviestInC o =
-    inC (o .number) (o .row) (o .ring) (pos (o .low)) (pos (o .high)) (pos (o .length)) (o .weight) []
+abbrev pub heaviestInC : HeaviestAnswer → Call
+heaviestInC (heaviest.Between low high length weight) = inC 0 0 0 (pos low) (pos high) (pos length) weight []
+heaviestInC (heaviest.Refused why) = refusalInC why []
 
 -- no fields; the heads
-abbrev pub headsInC : HeadsOutcome → Call
-headsInC o =
-    inC (o .number) (o .row) (o .ring) (pos 0) (pos 0) (pos 0) (pos 0) (o .list)
+abbrev pub headsInC : HeadsAnswer × List ℕ → Call
+headsInC (heads.Written, list) = inC 0 0 0 (pos 0) (pos 0) (pos 0) (pos 0) list
+headsInC (heads.Refused why, list) = refusalInC why list
 
 -- written, left; the rows
-abbrev pub listingInC : ListingOutcome → Call
-listingInC o =
-    inC (o .number) (o .row) (o .ring) (pos (o .written)) (pos (o .left)) (pos 0) (pos 0) (o .bytes)
+abbrev pub listingInC : Listed × List ℕ → Call
+listingInC (listing.Rows written left, rows) = inC 0 0 0 (pos written) (pos left) (pos 0) (pos 0) rows
+listingInC (listing.Refused why, rows) = refusalInC why rows
 
 -- how many changed; the marks
-abbrev pub changeInC : ChangeOutcome → Call
-changeInC o =
-    inC (o .number) (o .row) (o .ring) (pos (o .count)) (pos 0) (pos 0) (pos 0) (o .marks)
+abbrev pub changeInC : Change × List ℕ → Call
+changeInC (change.Changed count, marks) = inC 0 0 0 (pos count) (pos 0) (pos 0) (pos 0) marks
+changeInC (change.Refused why, marks) = refusalInC why marks

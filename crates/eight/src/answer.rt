@@ -1,9 +1,9 @@
 // The eight numbers of an answer, written in one place; and a refusal as such.
 ghost use mathlib.Core.Path.{_≡_};
 ghost use mathlib.Core.List.{List};
-ghost use lib.IntN.{pos};
 ghost use Prim.Native.Nat.{ℕ};
 ghost use Rattle.eight.specs.Call.{call, inC};
+ghost use Rattle.eight.specs.Shown.{refusalInC};
 ghost use Rattle.eight.specs.work.Room.{Room};
 use tree::Refusal;
 
@@ -30,8 +30,7 @@ pub(crate) fn fill(
 pub(crate) fn refuse(why: Refusal, answer: &mut [i64; 8]) -> u8
     requires { ⌜ Room (why .row) (why .ring) ⌝ }
     ensures { λ r. ⌜ ((lent : List ℕ)
-        → call r (now (answer .exit)) lent ≡ inC (why .number) (why .row) (why .ring)
-        (pos 0) (pos 0) (pos 0) (pos 0) lent) ⌝ }
+        → call r (now (answer .exit)) lent ≡ refusalInC why lent) ⌝ }
 {
     fill(answer, why.number, why.row, why.ring, 0, 0, 0, 0)
 }

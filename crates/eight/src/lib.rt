@@ -5,15 +5,9 @@ mod answer;
 ghost use mathlib.Core.Path.{_≡_};
 ghost use mathlib.Core.List.{List, []};
 ghost use Prim.Native.Nat.{ℕ};
-ghost use Rattle.tree.specs.Accept.{acceptanceOutcome};
-ghost use Rattle.spines.specs.Heads.{headsOutcome};
-ghost use Rattle.marks.specs.Change.{changeOutcome};
-ghost use Rattle.pair.specs.Pair.{pairOutcome};
-ghost use Rattle.heaviest.specs.Heaviest.{heaviestOutcome};
-ghost use Rattle.listing.specs.Listing.{listingOutcome};
 ghost use Rattle.eight.specs.Call.{call};
 ghost use Rattle.eight.specs.Shown.{acceptanceInC, pairInC, heaviestInC, headsInC, listingInC, changeInC};
-ghost use Rattle.eight.specs.work.Room.{Room, Storable};
+ghost use Rattle.eight.specs.work.Room.{AcceptanceRoom, PairRoom, HeaviestRoom, HeadsRoom, PageRoom, ChangeRoom};
 use crate::answer::fill;
 use crate::answer::refuse;
 use heaviest::HeaviestAnswer;
@@ -25,8 +19,8 @@ use tree::Acceptance;
 
 // Acceptance: the refusal, or nodes, bound.
 pub fn show_acceptance(o: Acceptance, answer: &mut [i64; 8]) -> u8
-    requires { ⌜ Room ((acceptanceOutcome o) .row) ((acceptanceOutcome o) .ring) ⌝ }
-    ensures { λ r. ⌜ call r (now (answer .exit)) [] ≡ acceptanceInC (acceptanceOutcome o) ⌝ }
+    requires { ⌜ AcceptanceRoom o ⌝ }
+    ensures { λ r. ⌜ call r (now (answer .exit)) [] ≡ acceptanceInC o ⌝ }
 {
     match o {
         Acceptance::Refused(why) => refuse(why, answer),
@@ -38,8 +32,8 @@ pub fn show_acceptance(o: Acceptance, answer: &mut [i64; 8]) -> u8
 
 // A pair: the refusal, or length, weight, hops.
 pub fn show_pair(o: PairAnswer, answer: &mut [i64; 8]) -> u8
-    requires { ⌜ Room ((pairOutcome o) .row) ((pairOutcome o) .ring) ⌝ }
-    ensures { λ r. ⌜ call r (now (answer .exit)) [] ≡ pairInC (pairOutcome o) ⌝ }
+    requires { ⌜ PairRoom o ⌝ }
+    ensures { λ r. ⌜ call r (now (answer .exit)) [] ≡ pairInC o ⌝ }
 {
     match o {
         PairAnswer::Refused(why) => refuse(why, answer),
@@ -53,8 +47,8 @@ pub fn show_pair(o: PairAnswer, answer: &mut [i64; 8]) -> u8
 
 // The heaviest run: the refusal, or low, high, length, weight.
 pub fn show_heaviest(o: HeaviestAnswer, answer: &mut [i64; 8]) -> u8
-    requires { ⌜ Room ((heaviestOutcome o) .row) ((heaviestOutcome o) .ring) ⌝ }
-    ensures { λ r. ⌜ call r (now (answer .exit)) [] ≡ heaviestInC (heaviestOutcome o) ⌝ }
+    requires { ⌜ HeaviestRoom o ⌝ }
+    ensures { λ r. ⌜ call r (now (answer .exit)) [] ≡ heaviestInC o ⌝ }
 {
     match o {
         HeaviestAnswer::Refused(why) => refuse(why, answer),
@@ -80,8 +74,8 @@ pub fn show_heaviest(o: HeaviestAnswer, answer: &mut [i64; 8]) -> u8
 
 // Heads: the refusal, or no fields.
 pub fn show_heads(o: HeadsAnswer, answer: &mut [i64; 8]) -> u8
-    requires { ⌜ ((list : List ℕ) × Room ((headsOutcome o list) .row) ((headsOutcome o list) .ring)) ⌝ }
-    ensures { λ r. ⌜ ((list : List ℕ) → call r (now (answer .exit)) list ≡ headsInC (headsOutcome o list)) ⌝ }
+    requires { ⌜ HeadsRoom o ⌝ }
+    ensures { λ r. ⌜ ((list : List ℕ) → call r (now (answer .exit)) list ≡ headsInC (o, list)) ⌝ }
 {
     match o {
         HeadsAnswer::Refused(why) => refuse(why, answer),
@@ -91,9 +85,8 @@ pub fn show_heads(o: HeadsAnswer, answer: &mut [i64; 8]) -> u8
 
 // A page: the refusal, or written, left.
 pub fn show_page(o: Listed, answer: &mut [i64; 8]) -> u8
-    requires { ⌜ ((rows : List ℕ) × Storable (listingOutcome o rows)) ⌝ }
-    ensures { λ r. ⌜ ((rows : List ℕ)
-        → call r (now (answer .exit)) rows ≡ listingInC (listingOutcome o rows)) ⌝ }
+    requires { ⌜ PageRoom o ⌝ }
+    ensures { λ r. ⌜ ((rows : List ℕ) → call r (now (answer .exit)) rows ≡ listingInC (o, rows)) ⌝ }
 {
     match o {
         Listed::Refused(why) => refuse(why, answer),
@@ -105,10 +98,8 @@ pub fn show_page(o: Listed, answer: &mut [i64; 8]) -> u8
 
 // What claim, commit or abort gave: the refusal, or how many marks changed.
 pub fn show_change(o: Change, answer: &mut [i64; 8]) -> u8
-    requires { ⌜ ((marks : List ℕ)
-        × Room ((changeOutcome o marks) .row) ((changeOutcome o marks) .ring)) ⌝ }
-    ensures { λ r. ⌜ ((marks : List ℕ)
-        → call r (now (answer .exit)) marks ≡ changeInC (changeOutcome o marks)) ⌝ }
+    requires { ⌜ ChangeRoom o ⌝ }
+    ensures { λ r. ⌜ ((marks : List ℕ) → call r (now (answer .exit)) marks ≡ changeInC (o, marks)) ⌝ }
 {
     match o {
         Change::Refused(why) => refuse(why, answer),

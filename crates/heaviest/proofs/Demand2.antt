@@ -7,18 +7,18 @@ use mathlib.Core.Path.{_≡_, refl, sym, ap, _∙_}
 use mathlib.Core.Logic.{_↔_, _≢_}
 use mathlib.Core.List.{List}
 use native.Mathlib.Omega.{arith}
+use lib.IntN.{ℤ}
 use lib.ListN.{length}
 use lib.Signed.{_≤ℤ_}
 use Rattle.table.specs.Refuse.{refused, passed}
 use Rattle.table.specs.Header.{nodesOf, boundOf}
-use Rattle.table.proofs.Refusals.{past, not-refused}
-use Rattle.tree.specs.Accept.{netAccepted, Accepts}
+use Rattle.table.proofs.Refusals.{past}
+use Rattle.tree.specs.Accept.{Accepts}
+use Rattle.tree.specs.declared.Acceptance.the-variants.{Accepted}
 use Rattle.tree.proofs.Begins.{begins-past, begins-rest}
-use Rattle.pages.specs.Listing.{Entry, Before}
+use Rattle.pages.specs.Listing.{Entry, entry, Before}
 use Rattle.heaviest.specs.Heaviest.{
-  HeaviestOutcome,
   heaviestRefusal,
-  heaviestFound,
   PairsWithin,
   Heaviest,
   Chooses,
@@ -26,6 +26,8 @@ use Rattle.heaviest.specs.Heaviest.{
   HeaviestOf,
   HeaviestExactOf,
 }
+use Rattle.heaviest.specs.declared.HeaviestAnswer.{HeaviestAnswer}
+use Rattle.heaviest.specs.declared.HeaviestAnswer.the-variants.{Between, Refused}
 
 -- the pairs of the table's net that pass the length test; within its bound; of exactly its length
 abbrev pub Passing : (ℕ → Type 0) → List ℕ → List ℕ → Entry → Type 0
@@ -47,53 +49,59 @@ module _ (Within : ℕ → Type 0) (s marks : List ℕ) where
       → f .weight ≤ℤ e .weight
   none-heavier e h f p = h .best f p .weight
 
+abbrev numberIn : HeaviestAnswer → ℕ
+numberIn (Between a b l w) = 0
+numberIn (Refused why) = why .number
+
+abbrev taken : HeaviestAnswer → ℕ
+taken (Between a b l w) = 1
+taken (Refused why) = 0
+
 -- under any length test, `none` being the number given where no pair passes
 module _ (none : ℕ) (Within : ℕ → Type 0) (s marks : List ℕ) where
   -- THE RUN FOUND. Where nothing is refused, the answer is a pair that passes and is at least as good as every other
-  pub found-within : none ≢ 0 → (o : HeaviestOutcome) → o .number ≡ 0 → HeaviestWithin none Within s marks o
-      → (e : Entry) × Heaviest (Passing Within s marks) e × (o ≡ heaviestFound e)
-  found-within some o z p =
-      let plain : (k r g : ℕ) → (k ≡ 0 → ⊥) → heaviestRefusal k r g ≡ o → ⊥ = λ k r g. not-refused
-      (λ (x : HeaviestOutcome). x .number) z in
-      let g = past (plain none 0 0 some)
-      (past (plain 13 0 0 (λ e. omega (arith, e))) (begins-past heaviestRefusal s plain p .1) .1) .1 in
-      (g .run, g .heaviest, g .is)
+  pub found-within : {a b l : ℕ} {w : ℤ} → HeaviestWithin none Within s marks (Between a b l w)
+      → Heaviest (Passing Within s marks) (entry a b l w)
+  found-within {a} {b} {l} {w} p =
+      let plain : (k r g : ℕ) → heaviestRefusal k r g ≡ Between a b l w → ⊥ = λ k r g e. omega (arith, ap taken e) in
+      past (plain none 0 0) (past (plain 13 0 0) (begins-past heaviestRefusal s plain p .1) .1) .1
 
   -- NONE EXACTLY. An accepted table with a mark for each branch is refused by `none` exactly if no pair passes
-  pub none-exactly : none ≢ 0 → none ≢ 13 → Accepts s (netAccepted (nodesOf s) (boundOf s))
-      → length marks ≡ nodesOf s - 1 → (o : HeaviestOutcome) → HeaviestWithin none Within s marks o
-      → (o .number ≡ none) ↔ ((e : Entry) → ¬ Passing Within s marks e)
-  none-exactly some other a m o p = let g = begins-rest heaviestRefusal s a p in (only o g, if o g)
+  pub none-exactly : none ≢ 13 → Accepts s (Accepted (nodesOf s) (boundOf s)) → length marks ≡ nodesOf s - 1
+      → (o : HeaviestAnswer) → HeaviestWithin none Within s marks o
+      → (o ≡ heaviestRefusal none 0 0) ↔ ((e : Entry) → ¬ Passing Within s marks e)
+  none-exactly other a m o p = let g = begins-rest heaviestRefusal s a p in (only o g, if o g)
     where
-      if : (o : HeaviestOutcome) → Chooses none Within s (nodesOf s) marks o
-          → ((e : Entry) → ¬ Passing Within s marks e) → o .number ≡ none
+      if : (o : HeaviestAnswer) → Chooses none Within s (nodesOf s) marks o
+          → ((e : Entry) → ¬ Passing Within s marks e) → o ≡ heaviestRefusal none 0 0
       if o (refused c) nothing = absurd (c m)
       if o (passed k (refused c)) nothing = refl
       if o (passed k (passed j g)) nothing = absurd (nothing (j .0) (j .1))
 
-      only : (o : HeaviestOutcome) → Chooses none Within s (nodesOf s) marks o → o .number ≡ none → (e : Entry)
-          → ¬ Passing Within s marks e
-      only o (refused c) z e p = other (omega (arith, z))
+      only : (o : HeaviestAnswer) → Chooses none Within s (nodesOf s) marks o → o ≡ heaviestRefusal none 0 0
+          → (e : Entry) → ¬ Passing Within s marks e
+      only o (refused c) z e p = other (omega (arith, ap numberIn z))
       only o (passed k (refused c)) z e p = c (e, p)
-      only o (passed k (passed j g)) z e p = some (omega (arith, z, ap (λ (x : HeaviestOutcome). x .number) (g .is)))
+      only o (passed k (passed j g)) z e p = absurd (rw z at g)
 
 -- both modes
 module _ (s marks : List ℕ) where
-  pub found-best : (o : HeaviestOutcome) → o .number ≡ 0 → HeaviestOf s marks o
-      → (e : Entry) × Heaviest (InReach s marks) e × (o ≡ heaviestFound e)
-  found-best = found-within 16 (λ l. l ≤ boundOf s) s marks (λ e. omega (arith, e))
+  pub found-best : {a b l : ℕ} {w : ℤ} → HeaviestOf s marks (Between a b l w)
+      → Heaviest (InReach s marks) (entry a b l w)
+  found-best = found-within 16 (λ l. l ≤ boundOf s) s marks
 
   pub run-joins : (e : Entry) → Heaviest (InReach s marks) e
       → (e .low < e .high) × (e .high < nodesOf s) × (e .length ≤ boundOf s)
   run-joins = run-passes (λ l. l ≤ boundOf s) s marks
 
-  pub sixteen-exactly : Accepts s (netAccepted (nodesOf s) (boundOf s)) → length marks ≡ nodesOf s - 1
-      → (o : HeaviestOutcome) → HeaviestOf s marks o → (o .number ≡ 16) ↔ ((e : Entry) → ¬ InReach s marks e)
-  sixteen-exactly = none-exactly 16 (λ l. l ≤ boundOf s) s marks (λ e. omega (arith, e)) (λ e. omega (arith, e))
+  pub sixteen-exactly : Accepts s (Accepted (nodesOf s) (boundOf s)) → length marks ≡ nodesOf s - 1
+      → (o : HeaviestAnswer) → HeaviestOf s marks o
+      → (o ≡ heaviestRefusal 16 0 0) ↔ ((e : Entry) → ¬ InReach s marks e)
+  sixteen-exactly = none-exactly 16 (λ l. l ≤ boundOf s) s marks (λ e. omega (arith, e))
 
-  pub exact-best : (o : HeaviestOutcome) → o .number ≡ 0 → HeaviestExactOf s marks o
-      → (e : Entry) × Heaviest (AtBound s marks) e × (o ≡ heaviestFound e)
-  exact-best = found-within 21 (λ l. l ≡ boundOf s) s marks (λ e. omega (arith, e))
+  pub exact-best : {a b l : ℕ} {w : ℤ} → HeaviestExactOf s marks (Between a b l w)
+      → Heaviest (AtBound s marks) (entry a b l w)
+  exact-best = found-within 21 (λ l. l ≡ boundOf s) s marks
 
   pub exact-joins : (e : Entry) → Heaviest (AtBound s marks) e
       → (e .low < e .high) × (e .high < nodesOf s) × (e .length ≡ boundOf s)
@@ -104,6 +112,7 @@ module _ (s marks : List ℕ) where
       → (f .weight ≤ℤ e .weight) × (f .weight ≡ e .weight → ¬ Before f e)
   exact-earliest e h f p = (h .best f p .weight, λ q. h .best f p .pair q (p .short ∙ sym (h .one .short)))
 
-  pub twenty-one-exactly : Accepts s (netAccepted (nodesOf s) (boundOf s)) → length marks ≡ nodesOf s - 1
-      → (o : HeaviestOutcome) → HeaviestExactOf s marks o → (o .number ≡ 21) ↔ ((e : Entry) → ¬ AtBound s marks e)
-  twenty-one-exactly = none-exactly 21 (λ l. l ≡ boundOf s) s marks (λ e. omega (arith, e)) (λ e. omega (arith, e))
+  pub twenty-one-exactly : Accepts s (Accepted (nodesOf s) (boundOf s)) → length marks ≡ nodesOf s - 1
+      → (o : HeaviestAnswer) → HeaviestExactOf s marks o
+      → (o ≡ heaviestRefusal 21 0 0) ↔ ((e : Entry) → ¬ AtBound s marks e)
+  twenty-one-exactly = none-exactly 21 (λ l. l ≡ boundOf s) s marks (λ e. omega (arith, e))

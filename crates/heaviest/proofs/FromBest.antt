@@ -1,7 +1,7 @@
 -- The heaviest run of an accepted net, from the best pair as the lists carry it, lifted by 2^40: none where its weight
 -- is 0, else the entry that its fields make.
 use Prim.Native.Nat.{ℕ, _+_, _-_, _≤_, _<_}
-use mathlib.Core.Path.{_≡_, refl, sym, ap}
+use mathlib.Core.Path.{_≡_, sym, ap}
 use mathlib.Core.Logic.{_⊎_, inl, inr, _≢_}
 use mathlib.Core.List.{List}
 use native.Mathlib.Omega.{arith}
@@ -18,7 +18,7 @@ use Rattle.spans.specs.declared.across.Best.{Best}
 use Rattle.parts.specs.work.Lift.{keyLift}
 use Rattle.layout.specs.work.BestPair.{Carried, BestPair}
 use Rattle.ground.specs.PathOf.{PathOf}
-use Rattle.heaviest.specs.Heaviest.{heaviestFound, PairsWithin, AtLeast, GivesHeaviest}
+use Rattle.heaviest.specs.Heaviest.{PairsWithin, AtLeast, Heaviest}
 
 module _ (s marks : List ℕ) {n : ℕ} {Within : ℕ → Type 0} (net : Net s n) {b : Best}
     (h : BestPair (PathOf s marks n) n Within b) where
@@ -73,8 +73,8 @@ module _ (s marks : List ℕ) {n : ℕ} {Within : ℕ → Type 0} (net : Net s n
   weight-fits m = let c = is-pair m .0 in (c .near-low, c .near-high)
 
   pub run-given : b .weight ≢ 0 → (z : ℤ) → LoweredOf (b .weight + 8589934592 - keyLift) z
-      → GivesHeaviest (PairsWithin Within s marks n) (heaviestFound (entry (b .low) (b .high) (b .length - keyLift) z))
-  run-given m z lo = record { run = e; heaviest = record { one = passes; best = best }; is = refl }
+      → Heaviest (PairsWithin Within s marks n) (entry (b .low) (b .high) (b .length - keyLift) z)
+  run-given m z lo = record { one = passes; best = best }
     where
       e : Entry
       e = entry (b .low) (b .high) (b .length - keyLift) z

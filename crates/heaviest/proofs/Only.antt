@@ -1,7 +1,7 @@
 -- The promise of heaviest allows one outcome, under any length test: of two heaviest runs each is at least as good as
 -- the other, so they agree in weight, length and pair.
 use Prim.Native.Nat.{ℕ, _<_}
-use mathlib.Core.Path.{_≡_, sym, ap, _∙_}
+use mathlib.Core.Path.{_≡_, sym, ap}
 use mathlib.Core.List.{List}
 use native.Mathlib.Omega.{arith}
 use native.Mathlib.Decide.{decLt}
@@ -12,10 +12,9 @@ use Rattle.table.specs.Refuse.{Only}
 use Rattle.table.specs.Header.{nodesOf}
 use Rattle.table.proofs.Refusals.{unless-only}
 use Rattle.tree.proofs.Begins.{begins-only}
-use Rattle.pages.specs.Listing.{Entry, Before, first, second}
+use Rattle.pages.specs.Listing.{Entry, entry, Before, first, second}
 use Rattle.heaviest.specs.Heaviest.{
   heaviestRefusal,
-  heaviestFound,
   AtLeast,
   Heaviest,
   GivesHeaviest,
@@ -24,6 +23,7 @@ use Rattle.heaviest.specs.Heaviest.{
   HeaviestOf,
   HeaviestExactOf,
 }
+use Rattle.heaviest.specs.declared.HeaviestAnswer.the-variants.{Between, Refused}
 
 pub level : (y z : ℤ) → y ≤ℤ z → z ≤ℤ y → y ≡ z
 level (pos m) (pos n) h k = ap pos (omega (arith, leb→le m n (h .le), leb→le n m (k .le)))
@@ -58,8 +58,11 @@ heaviest-run-only P e f p q =
     λ i. record { low = c .0 i; high = c .1 i; length = l i; weight = w i }
 
 gives-only : (P : Entry → Type 0) → Only (GivesHeaviest P)
-gives-only P x y p q =
-    p .is ∙ ap heaviestFound (heaviest-run-only P (p .run) (q .run) (p .heaviest) (q .heaviest)) ∙ sym (q .is)
+gives-only P (Between a b l w) (Between c d k z) p q =
+    let e = heaviest-run-only P (entry a b l w) (entry c d k z) p q in
+    λ i. Between (e i .low) (e i .high) (e i .length) (e i .weight)
+gives-only P (Between a b l w) (Refused why) p q = absurd q
+gives-only P (Refused why) y p q = absurd p
 
 pub goes-only : (none : ℕ) (Within : ℕ → Type 0) (s : List ℕ) (n : ℕ) (marks : List ℕ)
     → Only (Chooses none Within s n marks)

@@ -2,7 +2,6 @@
 use Prim.Native.Nat.{ℕ, _-_, _≤_}
 use mathlib.Core.Path.{_≡_}
 use mathlib.Core.List.{List}
-use lib.IntN.{ℤ, pos}
 use lib.ListN.{length}
 use lib.Signed.{_≤ℤ_}
 use Rattle.table.specs.Refuse.{Unless}
@@ -14,27 +13,8 @@ use Rattle.ground.specs.PathOf.{PathOf}
 use Rattle.heaviest.specs.declared.HeaviestAnswer.{HeaviestAnswer}
 use Rattle.heaviest.specs.declared.HeaviestAnswer.the-variants.{Between, Refused}
 
--- all that a call leaves: the paper's number, row and ring, the two nodes, length and weight
-pub record HeaviestOutcome : Type 0 where
-  pub number : ℕ
-  pub row : ℕ
-  pub ring : ℕ
-  pub low : ℕ
-  pub high : ℕ
-  pub length : ℕ
-  pub weight : ℤ
-
--- a refusal: number, row and ring, zeros elsewhere
-abbrev pub heaviestRefusal : ℕ → ℕ → ℕ → HeaviestOutcome
-heaviestRefusal k r g = record { number = k; row = r; ring = g; low = 0; high = 0; length = 0; weight = pos 0 }
-
-abbrev pub heaviestFound : Entry → HeaviestOutcome
-heaviestFound e =
-    record { number = 0; row = 0; ring = 0; low = e .low; high = e .high; length = e .length; weight = e .weight }
-
-abbrev pub heaviestOutcome : HeaviestAnswer → HeaviestOutcome
-heaviestOutcome (Between a b l w) = heaviestFound (entry a b l w)
-heaviestOutcome (Refused r) = heaviestRefusal (r .number) (r .row) (r .ring)
+abbrev pub heaviestRefusal : ℕ → ℕ → ℕ → HeaviestAnswer
+heaviestRefusal k r g = Refused (record { number = k; row = r; ring = g })
 
 -- the pairs of the net of n nodes within the length test, of any weight
 abbrev pub PairsWithin : (ℕ → Type 0) → List ℕ → List ℕ → ℕ → Entry → Type 0
@@ -51,24 +31,23 @@ pub record Heaviest (P : Entry → Type 0) (e : Entry) : Type 0 where
   pub one : P e
   pub best : (f : Entry) → P f → AtLeast e f
 
-pub record GivesHeaviest (P : Entry → Type 0) (o : HeaviestOutcome) : Type 0 where
-  pub run : Entry
-  pub heaviest : Heaviest P run
-  pub is : o ≡ heaviestFound run
+abbrev pub GivesHeaviest : (Entry → Type 0) → HeaviestAnswer → Type 0
+GivesHeaviest P (Between a b l w) = Heaviest P (entry a b l w)
+GivesHeaviest P (Refused why) = ⊥
 
 -- 13, then `none` where no pair is within the length test, then the heaviest run, of a net of n nodes
-abbrev pub Chooses : ℕ → (ℕ → Type 0) → List ℕ → ℕ → List ℕ → HeaviestOutcome → Type 0
+abbrev pub Chooses : ℕ → (ℕ → Type 0) → List ℕ → ℕ → List ℕ → HeaviestAnswer → Type 0
 Chooses none Within s n marks =
-    Unless HeaviestOutcome (heaviestRefusal 13 0 0) (length marks ≡ n - 1)
-    (Unless HeaviestOutcome (heaviestRefusal none 0 0) ((e : Entry) × PairsWithin Within s marks n e)
+    Unless HeaviestAnswer (heaviestRefusal 13 0 0) (length marks ≡ n - 1)
+    (Unless HeaviestAnswer (heaviestRefusal none 0 0) ((e : Entry) × PairsWithin Within s marks n e)
     (GivesHeaviest (PairsWithin Within s marks n)))
 
 -- the whole promise, under any length test; heaviest's own: 16, at most B; and heaviest_exact's: 21, exactly B
-abbrev pub HeaviestWithin : ℕ → (ℕ → Type 0) → List ℕ → List ℕ → HeaviestOutcome → Type 0
-HeaviestWithin none Within s marks = Begins HeaviestOutcome heaviestRefusal s (Chooses none Within s (nodesOf s) marks)
+abbrev pub HeaviestWithin : ℕ → (ℕ → Type 0) → List ℕ → List ℕ → HeaviestAnswer → Type 0
+HeaviestWithin none Within s marks = Begins HeaviestAnswer heaviestRefusal s (Chooses none Within s (nodesOf s) marks)
 
-abbrev pub HeaviestOf : List ℕ → List ℕ → HeaviestOutcome → Type 0
+abbrev pub HeaviestOf : List ℕ → List ℕ → HeaviestAnswer → Type 0
 HeaviestOf s = HeaviestWithin 16 (λ l. l ≤ boundOf s) s
 
-abbrev pub HeaviestExactOf : List ℕ → List ℕ → HeaviestOutcome → Type 0
+abbrev pub HeaviestExactOf : List ℕ → List ℕ → HeaviestAnswer → Type 0
 HeaviestExactOf s = HeaviestWithin 21 (λ l. l ≡ boundOf s) s

@@ -5,7 +5,7 @@ ghost use Rattle.table.specs.Header.{boundOf};
 ghost use Rattle.tree.specs.work.Net.{Net};
 ghost use Rattle.limits.specs.work.Fits.{Within, Fits};
 ghost use Rattle.layout.specs.work.BestPair.{BestPair};
-ghost use Rattle.heaviest.specs.Heaviest.{heaviestOutcome, Chooses, HeaviestWithin, HeaviestOf, HeaviestExactOf};
+ghost use Rattle.heaviest.specs.Heaviest.{Chooses, HeaviestWithin, HeaviestOf, HeaviestExactOf};
 ghost use Rattle.ground.specs.PathOf.{PathOf};
 use ground::grounded;
 use limits::Limit;
@@ -54,7 +54,7 @@ fn search(s: &[u8], marks: &[u16], nodes: u16, limit: Limit) -> Best
 fn choose(s: &[u8], marks: &[u16], nodes: u16, limit: Limit, none: u8) -> HeaviestAnswer
     requires { ⌜ Net (now s) nodes ⌝ }
     requires { ⌜ limit .most < 4294967296 ⌝ }
-    ensures { λ r. ⌜ Chooses none (Fits limit) (now (s .entry)) nodes (now (marks .entry)) (heaviestOutcome r) ⌝ }
+    ensures { λ r. ⌜ Chooses none (Fits limit) (now (s .entry)) nodes (now (marks .entry)) r ⌝ }
 {
     let n = arrays::wide(nodes);
     if marks.len() != n - 1 {
@@ -86,14 +86,14 @@ fn choose(s: &[u8], marks: &[u16], nodes: u16, limit: Limit, none: u8) -> Heavie
 
 // The heaviest run of the net in table s under the marks.
 pub fn heaviest(s: &[u8], marks: &[u16]) -> HeaviestAnswer
-    ensures { λ r. ⌜ HeaviestOf (now (s .entry)) (now (marks .entry)) (heaviestOutcome r) ⌝ }
+    ensures { λ r. ⌜ HeaviestOf (now (s .entry)) (now (marks .entry)) r ⌝ }
 {
     heaviest_in_mode(s, marks, false, 16)
 }
 
 // The heaviest of exactly the bound's length.
 pub fn heaviest_exact(s: &[u8], marks: &[u16]) -> HeaviestAnswer
-    ensures { λ r. ⌜ HeaviestExactOf (now (s .entry)) (now (marks .entry)) (heaviestOutcome r) ⌝ }
+    ensures { λ r. ⌜ HeaviestExactOf (now (s .entry)) (now (marks .entry)) r ⌝ }
 {
     heaviest_in_mode(s, marks, true, 21)
 }
@@ -101,7 +101,7 @@ pub fn heaviest_exact(s: &[u8], marks: &[u16]) -> HeaviestAnswer
 // Both: whether the bound is meant exactly, and what no such pair is refused by.
 fn heaviest_in_mode(s: &[u8], marks: &[u16], exact: bool, none: u8) -> HeaviestAnswer
     ensures { λ r. ⌜ HeaviestWithin none (Within exact (boundOf (now (s .entry)))) (now (s .entry)) (now (marks .entry))
-        (heaviestOutcome r) ⌝ }
+        r ⌝ }
 {
     let o = tree::accept(s);
     match o {

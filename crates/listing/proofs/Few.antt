@@ -9,7 +9,8 @@ use lib.ListN.{length, length-append}
 use Rattle.arrays.specs.Members.{In, at, past}
 use Rattle.pages.specs.Listing.{Entry, first, second, Before, Rising, more}
 use Rattle.pages.proofs.Rows.{rows-length}
-use Rattle.listing.specs.Listing.{ListingOutcome, ListingWithin}
+use Rattle.listing.specs.Listing.{ListingWithin}
+use Rattle.listing.specs.declared.Listed.the-variants.{Rows}
 use Rattle.listing.proofs.Only.{listing-page}
 
 -- a pair's place among all pairs of nodes below 4,096
@@ -29,21 +30,19 @@ rising-few (x ∷ l) b m h (more before r) p =
     (λ e i. (p e (past i) .0, omega (arith, later x e (here .0) (before e i)), p e (past i) .2)) in
     omega (arith, here .1, rest)
 
-pub listing-few :
-    (Within : ℕ → Type 0) (s marks : List ℕ) (floor : ℤ) (low high : ℕ) (old : List ℕ) (x : ListingOutcome)
-    → x .number ≡ 0 → ListingWithin Within s marks floor low high old x → x .written + x .left ≤ 16777216
-listing-few Within s marks floor low high old x z p =
-    let n = listing-page Within s marks floor low high old x z p in
-    let g = n .1 .page in
-    let few = rising-few (g .rows) 0 16777216 (omega arith) (g .all .rising)
-    (λ e i.
-    let q = g .all .sound e i .0 in
-    (omega (arith, q .node, n .0 .few), omega arith, omega (arith, q .pair, q .node, n .0 .few))) in
-    omega (arith, n .1 .count, g .rest, few)
+module _ (Within : ℕ → Type 0) (s marks : List ℕ) (floor : ℤ) (low high : ℕ) (old : List ℕ) {written left : ℕ}
+    {bytes : List ℕ} (p : ListingWithin Within s marks floor low high old (Rows written left, bytes)) where
+  pub listing-few : written + left ≤ 16777216
+  listing-few =
+      let n = listing-page Within s marks floor low high old p in
+      let g = n .1 .page in
+      let few = rising-few (g .rows) 0 16777216 (omega arith) (g .all .rising)
+      (λ e i.
+      let q = g .all .sound e i .0 in
+      (omega (arith, q .node, n .0 .few), omega arith, omega (arith, q .pair, q .node, n .0 .few))) in
+      omega (arith, n .1 .count, g .rest, few)
 
-pub listing-room :
-    (Within : ℕ → Type 0) (s marks : List ℕ) (floor : ℤ) (low high : ℕ) (old : List ℕ) (x : ListingOutcome)
-    → x .number ≡ 0 → ListingWithin Within s marks floor low high old x → 16 * x .written ≤ length (x .bytes)
-listing-room Within s marks floor low high old x z p =
-    let g = listing-page Within s marks floor low high old x z p .1 in
-    omega (arith, g .count, simp (length-append, rows-length) at (ap length (g .bytes)))
+  pub listing-room : 16 * written ≤ length bytes
+  listing-room =
+      let g = listing-page Within s marks floor low high old p .1 in
+      omega (arith, g .count, simp (length-append, rows-length) at (ap length (g .bytes)))

@@ -13,37 +13,33 @@ use Rattle.pages.specs.Passes.{Qualifies}
 use Rattle.pages.proofs.Pages.{page-iff}
 use Rattle.ground.specs.PathOf.{PathOf}
 use Rattle.ground.proofs.Alike.{passes-alike, flip}
-use Rattle.listing.specs.Listing.{ListingOutcome, listingRefusal, GivesPage, GoesOn, ListingWithin}
+use Rattle.listing.specs.Listing.{listingRefusal, GivesPage, GoesOn, ListingWithin}
+use Rattle.listing.specs.declared.Listed.{Listed}
+use Rattle.listing.specs.declared.Listed.the-variants.{Rows, Refused}
 use Rattle.listing.proofs.Only.{goes-only}
 
 page-alike : (s marks marks′ : List ℕ) → Alike marks marks′
-    → (Within : ℕ → Type 0) (floor : ℤ) (n low high : ℕ) (old : List ℕ) {x : ListingOutcome}
+    → (Within : ℕ → Type 0) (floor : ℤ) (n low high : ℕ) (old : List ℕ) (x : Listed × List ℕ)
     → GivesPage (Qualifies (PathOf s marks n) Within floor n) low high old x
     → GivesPage (Qualifies (PathOf s marks′ n) Within floor n) low high old x
-page-alike s marks marks′ h Within floor n low high old p =
+page-alike s marks marks′ h Within floor n low high old (Rows w l, bytes) p =
     record {
-      taken = p .taken;
-      number = p .number;
-      row = p .row;
-      ring = p .ring;
-      page = record {
-        some = p .page .some;
-        page = page-iff (passes-alike s marks marks′ h n) (passes-alike s marks′ marks (flip marks marks′ h) n)
-            (p .page .page);
-        count = p .page .count;
-        bytes = p .page .bytes;
-      };
+      some = p .some;
+      page = page-iff (passes-alike s marks marks′ h n) (passes-alike s marks′ marks (flip marks marks′ h) n) (p .page);
+      count = p .count;
+      bytes = p .bytes;
     }
+page-alike s marks marks′ h Within floor n low high old (Refused why, bytes) p = p
 
 goes-alike : (s marks marks′ : List ℕ) → Alike marks marks′ → length marks ≡ length marks′
-    → (Within : ℕ → Type 0) (floor : ℤ) (n low high : ℕ) (old : List ℕ) {x : ListingOutcome}
+    → (Within : ℕ → Type 0) (floor : ℤ) (n low high : ℕ) (old : List ℕ) {x : Listed × List ℕ}
     → GoesOn Within s n marks floor low high old x → GoesOn Within s n marks′ floor low high old x
-goes-alike s marks marks′ h e Within floor n low high old p =
+goes-alike s marks marks′ h e Within floor n low high old {x = x} p =
     rw (← e)
-    (unless-map (λ o. o) (λ _. unless-map (λ o. o) (λ _. page-alike s marks marks′ h Within floor n low high old)) p)
+    (unless-map (λ o. o) (λ _. unless-map (λ o. o) (λ _. page-alike s marks marks′ h Within floor n low high old x)) p)
 
 pub holders-never-show : (Within : ℕ → Type 0) (s marks marks′ : List ℕ) → Alike marks marks′
-    → length marks ≡ length marks′ → (floor : ℤ) (low high : ℕ) (old : List ℕ) (x y : ListingOutcome)
+    → length marks ≡ length marks′ → (floor : ℤ) (low high : ℕ) (old : List ℕ) (x y : Listed × List ℕ)
     → ListingWithin Within s marks floor low high old x → ListingWithin Within s marks′ floor low high old y → x ≡ y
 holders-never-show Within s marks marks′ h e floor low high old =
     begins-alike (listingRefusal old) s

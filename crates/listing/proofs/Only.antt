@@ -1,14 +1,13 @@
--- The listing's promise allows one outcome, under any length test, and an outcome is that of one answer; and an outcome
--- without a number is a page of an accepted net.
+-- The listing's promise allows one outcome, under any length test; and one that is no refusal is a page of an accepted
+-- net.
 use Prim.Native.Nat.{ℕ}
-use mathlib.Core.Path.{_≡_, sym, ap, _∙_}
-use mathlib.Core.Bool.{true≢false, false≢true}
+use mathlib.Core.Path.{_≡_, ap}
 use mathlib.Core.List.{List}
 use native.Mathlib.Omega.{arith}
 use lib.IntN.{ℤ}
 use Rattle.table.specs.Refuse.{Only}
 use Rattle.table.specs.Header.{nodesOf}
-use Rattle.table.proofs.Refusals.{unless-only, past, not-refused}
+use Rattle.table.proofs.Refusals.{unless-only, past}
 use Rattle.tree.specs.work.Net.{Net}
 use Rattle.tree.proofs.Begins.{begins-only, begins-past}
 use Rattle.pages.specs.Listing.{Entry}
@@ -17,9 +16,7 @@ use Rattle.pages.specs.Paged.{Paged}
 use Rattle.pages.proofs.Only.{paged-only}
 use Rattle.ground.specs.PathOf.{PathOf}
 use Rattle.listing.specs.Listing.{
-  ListingOutcome,
   listingRefusal,
-  listingOutcome,
   GivesPage,
   GoesOn,
   ListingWithin,
@@ -30,13 +27,11 @@ use Rattle.listing.specs.declared.Listed.{Listed}
 use Rattle.listing.specs.declared.Listed.the-variants.{Rows, Refused}
 
 lists-only : (P : Entry → Type 0) (low high : ℕ) (old : List ℕ) → Only (GivesPage P low high old)
-lists-only P low high old x y a b =
-    let e = paged-only (a .page) (b .page) in
-    let n : x .number ≡ y .number = a .number ∙ sym (b .number) in
-    let r : x .row ≡ y .row = a .row ∙ sym (b .row) in
-    let g : x .ring ≡ y .ring = a .ring ∙ sym (b .ring) in
-    let t : x .refused ≡ y .refused = a .taken ∙ sym (b .taken) in
-    λ i. record { refused = t i; number = n i; row = r i; ring = g i; written = e .0 i; left = e .1 i; bytes = e .2 i }
+lists-only P low high old (Rows w l, x) (Rows w′ l′, y) a b =
+    let e = paged-only a b in
+    λ i. (Rows (e .0 i) (e .1 i), e .2 i)
+lists-only P low high old (Rows w l, x) (Refused why, y) a b = absurd b
+lists-only P low high old (Refused why, x) y a b = absurd a
 
 pub goes-only : (Within : ℕ → Type 0) (s : List ℕ) (n : ℕ) (marks : List ℕ) (floor : ℤ) (low high : ℕ) (old : List ℕ)
     → Only (GoesOn Within s n marks floor low high old)
@@ -55,26 +50,19 @@ pub listing-exact-only : (s marks : List ℕ) (floor : ℤ) (low high : ℕ) (ol
     → Only (ListingExactOf s marks floor low high old)
 listing-exact-only s = listing-within-only _ s
 
--- so the promise determines the answer itself: an outcome is that of one answer
-pub listed-one : (x y : Listed) (l m : List ℕ) → listingOutcome x l ≡ listingOutcome y m → x ≡ y
-listed-one (Rows a b) (Rows c d) l m e = λ i. Rows (e i .written) (e i .left)
-listed-one (Rows a b) (Refused w) l m e =
-    absurd (false≢true (ap (λ (o : ListingOutcome). o .refused) e))
-listed-one (Refused w) (Rows a b) l m e =
-    absurd (true≢false (ap (λ (o : ListingOutcome). o .refused) e))
-listed-one (Refused w) (Refused v) l m e =
-    λ i. Refused (record { number = e i .number; row = e i .row; ring = e i .ring })
-
 -- what a call that is not refused gives
-module _ (Within : ℕ → Type 0) (s marks : List ℕ) (floor : ℤ) (low high : ℕ) (old : List ℕ) (x : ListingOutcome)
-    (z : x .number ≡ 0) where
-  plain : (k r g : ℕ) → (k ≡ 0 → ⊥) → listingRefusal old k r g ≡ x → ⊥
-  plain k r g = not-refused (λ (o : ListingOutcome). o .number) z
+abbrev taken : Listed → ℕ
+taken (Rows w l) = 1
+taken (Refused why) = 0
 
-  pub listing-page : ListingWithin Within s marks floor low high old x
+module _ (Within : ℕ → Type 0) (s marks : List ℕ) (floor : ℤ) (low high : ℕ) (old : List ℕ) {written left : ℕ}
+    {bytes : List ℕ} where
+  plain : (k r g : ℕ) → listingRefusal old k r g ≡ (Rows written left, bytes) → ⊥
+  plain k r g e = omega (arith, ap (λ (o : Listed × List ℕ). taken (o .0)) e)
+
+  pub listing-page : ListingWithin Within s marks floor low high old (Rows written left, bytes)
       → Net s (nodesOf s)
-      × Paged (Qualifies (PathOf s marks (nodesOf s)) Within floor (nodesOf s)) low high old (x .written) (x .left)
-      (x .bytes)
+      × Paged (Qualifies (PathOf s marks (nodesOf s)) Within floor (nodesOf s)) low high old written left bytes
   listing-page p =
       let n = begins-past (listingRefusal old) s plain p in
-      (n .0, past (plain 17 0 0 (λ e. omega arith)) (past (plain 13 0 0 (λ e. omega arith)) (n .1) .1) .1 .page)
+      (n .0, past (plain 17 0 0) (past (plain 13 0 0) (n .1) .1) .1)

@@ -5,7 +5,7 @@ mod scan;
 ghost use Rattle.table.specs.Header.{boundOf};
 ghost use Rattle.tree.specs.work.Net.{Net};
 ghost use Rattle.limits.specs.work.Fits.{Within, Fits};
-ghost use Rattle.listing.specs.Listing.{listingOutcome, GoesOn, ListingWithin, ListingOf, ListingExactOf};
+ghost use Rattle.listing.specs.Listing.{GoesOn, ListingWithin, ListingOf, ListingExactOf};
 use limits::Limit;
 use tree::Acceptance;
 use tree::Refusal;
@@ -20,7 +20,7 @@ pub enum Listed {
 // fit.
 pub fn listing(s: &[u8], marks: &[u16], floor: i64, low: u16, high: u16, rows: &mut [u8]) -> Listed
     ensures { λ r. ⌜ ListingOf (now (s .entry)) (now (marks .entry)) floor low high (now (rows .entry))
-        (listingOutcome r (now (rows .exit))) ⌝ }
+        (r, now (rows .exit)) ⌝ }
 {
     listing_in_mode(s, marks, false, floor, low, high, rows)
 }
@@ -35,7 +35,7 @@ pub fn listing_exact(
     rows: &mut [u8],
 ) -> Listed
     ensures { λ r. ⌜ ListingExactOf (now (s .entry)) (now (marks .entry)) floor low high (now (rows .entry))
-        (listingOutcome r (now (rows .exit))) ⌝ }
+        (r, now (rows .exit)) ⌝ }
 {
     listing_in_mode(s, marks, true, floor, low, high, rows)
 }
@@ -51,7 +51,7 @@ fn listing_in_mode(
     rows: &mut [u8],
 ) -> Listed
     ensures { λ r. ⌜ ListingWithin (Within exact (boundOf (now (s .entry)))) (now (s .entry)) (now (marks .entry)) floor
-        low high (now (rows .entry)) (listingOutcome r (now (rows .exit))) ⌝ }
+        low high (now (rows .entry)) (r, now (rows .exit)) ⌝ }
 {
     let o = tree::accept(s);
     match o {
@@ -80,7 +80,7 @@ fn go_on(
 ) -> Listed
     requires { ⌜ Net (now s) nodes ⌝ }
     ensures { λ r. ⌜ GoesOn (Fits limit) (now (s .entry)) nodes (now (marks .entry)) floor low high (now (rows .entry))
-        (listingOutcome r (now (rows .exit))) ⌝ }
+        (r, now (rows .exit)) ⌝ }
 {
     let n = arrays::wide(nodes);
     if marks.len() != n - 1 {

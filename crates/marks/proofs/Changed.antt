@@ -21,8 +21,9 @@ use Rattle.tree.proofs.OnePath.{unique}
 use Rattle.tree.proofs.RingExactly.{once}
 use Rattle.tree.proofs.Counts.{count-same, count-unique, count-some}
 use Rattle.marks.specs.Mark.{free, HeldBy, RunNumber}
-use Rattle.marks.specs.Change.{changed, Changes, Done}
-use Rattle.marks.specs.Claim.{Between, InReach, Taken, SomeFree}
+use Rattle.marks.specs.Change.{Changes, Done}
+use Rattle.marks.specs.declared.Change.the-variants.{Changed, Refused}
+use Rattle.marks.specs.Claim.{Between, InReach, Taken}
 use Rattle.marks.specs.work.Replace.{HoldsOld}
 use Rattle.marks.specs.work.Climbs.{one-free, Frees, Held}
 use Rattle.marks.proofs.Rises.{Whole}
@@ -54,11 +55,13 @@ changes-marks {P} {m} {before} {x} {y} p q =
         let out : P r → ⊥ = λ h. n (p .becomes r h ∙ sym (q .becomes r h)) in
         absurd (n (p .stays r out ∙ sym (q .stays r out)))
 
-pub done-only : {P : ℕ → Type 0} {m : ℕ} {before : List ℕ} → Only (Done P m before)
-done-only x y p q =
-    let g : x .count ≡ y .count = count-unique (p .marks .count) (q .marks .count) in
-    let h : x .marks ≡ y .marks = changes-marks (p .marks) (q .marks) in
-    p .is ∙ (λ i. changed (h i) (g i)) ∙ sym (q .is)
+pub done-only : (P : ℕ → Type 0) (m : ℕ) (before : List ℕ) → Only (Done P m before)
+done-only P m before (Changed j, x) (Changed k, y) p q =
+    let g : j ≡ k = count-unique (p .count) (q .count) in
+    let h : x ≡ y = changes-marks p q in
+    λ i. (Changed (g i), h i)
+done-only P m before (Changed j, x) (Refused v, y) p q = absurd q
+done-only P m before (Refused w, x) y p q = absurd p
 
 count-has : {P : ℕ → Type 0} {k : ℕ} → Count P k → k ≢ 0 → (x : ℕ) × P x
 count-has {P} {k} c m = pick (c .list) (c .long) (c .only)
@@ -107,8 +110,8 @@ module _ {s : List ℕ} {n a b : ℕ} (N : Net s n) where
         both r (inr i) = in-right ups i
 
     -- where none is counted none is free, and where one is there is one
-    pub none-free : Frees before ups + Frees before downs ≡ 0 → SomeFree s before n a b → ⊥
-    none-free z o = omega (arith, count-some (o .row) (o .taken) frees-many)
+    pub none-free : Frees before ups + Frees before downs ≡ 0 → (r : ℕ) × Taken s before n a b r → ⊥
+    none-free z o = omega (arith, count-some (o .0) (o .1) frees-many)
 
-    pub some-free : Frees before ups + Frees before downs ≢ 0 → SomeFree s before n a b
-    some-free m = let h = count-has frees-many m in record { row = h .0; taken = h .1 }
+    pub some-free : Frees before ups + Frees before downs ≢ 0 → (r : ℕ) × Taken s before n a b r
+    some-free m = count-has frees-many m

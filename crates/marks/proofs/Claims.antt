@@ -16,7 +16,7 @@ use Rattle.tree.specs.work.Grown.{Grown}
 use Rattle.tree.specs.work.Meet.{Meets, Hung}
 use Rattle.tree.proofs.NetWalk.{walk-grown, walk-rooted}
 use Rattle.tree.proofs.Meeting.{grown-hung, meets-apart}
-use Rattle.marks.specs.Change.{changeRefusal, changeOutcome}
+use Rattle.marks.specs.Change.{changeRefusal}
 use Rattle.marks.specs.Claim.{Ended}
 use Rattle.marks.specs.work.Climbs.{
   Frees,
@@ -89,11 +89,11 @@ module _ {s : List ℕ} {n : ℕ} {parent half place : List ℕ} (N : Net s n) (
 
       pub all-taken : {mid after : List ℕ} → k + k′ ≢ 0 → ClimbHeld parent half a t run before mid
           → ClimbHeld parent half b t run mid after
-          → Ended s n bound before run a b (changeOutcome (Changed (k + k′)) after)
+          → Ended s n bound before run a b (Changed (k + k′), after)
       all-taken {mid} {after} z p q =
           passed (record { rows = whole .rows; path = whole .path; short = omega (arith, long) })
           (passed (some-free N before whole (λ e. z (sym frees ∙ e)))
-          (record { is = refl; marks = rw frees at (claimed N before whole both) }))
+          (rw frees at (claimed N before whole both)))
         where
           first : Held (ups .rows) run before mid
           first = rw (rise-only rooted (R .pair .first) (p .rise) (ups .rise)) at (p .held)

@@ -11,8 +11,10 @@ use Rattle.tree.specs.Path.{Sum}
 use Rattle.tree.specs.Net.{firstEnd, secondEnd, lengthOf}
 use Rattle.tree.proofs.Flip.{flip}
 use Rattle.tree.proofs.Counts.{count-same}
-use Rattle.marks.specs.Change.{ChangeOutcome, Done}
-use Rattle.marks.specs.Claim.{Between, InReach, Taken, SomeFree, Ended}
+use Rattle.marks.specs.Change.{Done}
+use Rattle.marks.specs.declared.Change.{Change}
+use Rattle.marks.specs.declared.Change.the-variants.{Changed, Refused}
+use Rattle.marks.specs.Claim.{Between, InReach, Taken, Ended}
 
 -- 1 at r, and 0 elsewhere: a list's sum of it tells whether r is in it
 abbrev one-at : ℕ → ℕ → ℕ
@@ -51,21 +53,22 @@ module _ {s : List ℕ} {n a b : ℕ} where
         free = t .free;
       }
 
-  some-flip : {before : List ℕ} → SomeFree s before n a b → SomeFree s before n b a
-  some-flip h = record { row = h .row; taken = taken-flip (h .row) (h .taken) }
+  some-flip : {before : List ℕ} → (r : ℕ) × Taken s before n a b r → (r : ℕ) × Taken s before n b a r
+  some-flip h = (h .0, taken-flip (h .0) (h .1))
 
-done-alike : {P Q : ℕ → Type 0} {m : ℕ} {before : List ℕ} {o : ChangeOutcome} → ((r : ℕ) → P r → Q r)
-    → ((r : ℕ) → Q r → P r) → Done P m before o → Done Q m before o
-done-alike to fro d = record {
-  is = d .is;
-  marks = record {
-    same-many = d .marks .same-many;
-    becomes = λ r q. d .marks .becomes r (fro r q);
-    stays = λ r q. d .marks .stays r (λ p. q (to r p));
-    count = count-same to fro (d .marks .count);
-  };
+done-alike : {P Q : ℕ → Type 0} (m : ℕ) (before : List ℕ) → ((r : ℕ) → P r → Q r) → ((r : ℕ) → Q r → P r)
+    → (o : Change × List ℕ) → Done P m before o → Done Q m before o
+done-alike m before to fro (Changed k, after) d = record {
+  same-many = d .same-many;
+  becomes = λ r q. d .becomes r (fro r q);
+  stays = λ r q. d .stays r (λ p. q (to r p));
+  count = count-same to fro (d .count);
 }
+done-alike m before to fro (Refused w, after) d = d
 
-pub ended-flip : {s before : List ℕ} {n bound run a b : ℕ} {o : ChangeOutcome} → Ended s n bound before run a b o
+pub ended-flip : {s before : List ℕ} {n bound run a b : ℕ} {o : Change × List ℕ} → Ended s n bound before run a b o
     → Ended s n bound before run b a o
-ended-flip = unless-alike reach-flip reach-flip (unless-alike some-flip some-flip (done-alike taken-flip taken-flip))
+ended-flip {s} {before} {n} {run = run} {a = a} {b = b} {o = o} =
+    unless-alike reach-flip reach-flip
+    (unless-alike some-flip some-flip
+    (done-alike {P = Taken s before n a b} {Q = Taken s before n b a} run before taken-flip taken-flip o))

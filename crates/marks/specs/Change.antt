@@ -1,7 +1,6 @@
--- What claim, commit and abort leave: whether they were refused, with number, row and ring, how many marks changed, and
--- the lent marks. And what commit and abort promise.
+-- What claim, commit and abort leave: the answer, which is why they were refused or how many marks changed, and the
+-- lent marks. And what commit and abort promise.
 use mathlib.Core.Path.{_≡_}
-use mathlib.Core.Bool.{Bool, true, false}
 use mathlib.Core.List.{List}
 use Prim.Native.Nat.{ℕ, _-_}
 use lib.ListN.{length}
@@ -14,25 +13,9 @@ use Rattle.marks.specs.Mark.{free, spent, HeldBy, RunNumber}
 use Rattle.marks.specs.declared.Change.{Change}
 use Rattle.marks.specs.declared.Change.the-variants.{Changed, Refused}
 
-pub record ChangeOutcome : Type 0 where
-  pub refused : Bool
-  pub number : ℕ
-  pub row : ℕ
-  pub ring : ℕ
-  pub count : ℕ
-  pub marks : List ℕ
-
 -- a refusal: number, row and ring, and the marks as they were
-abbrev pub changeRefusal : List ℕ → ℕ → ℕ → ℕ → ChangeOutcome
-changeRefusal before k r g = record { refused = true; number = k; row = r; ring = g; count = 0; marks = before }
-
--- nothing is refused, and k marks changed
-abbrev pub changed : List ℕ → ℕ → ChangeOutcome
-changed after k = record { refused = false; number = 0; row = 0; ring = 0; count = k; marks = after }
-
-abbrev pub changeOutcome : Change → List ℕ → ChangeOutcome
-changeOutcome (Changed k) after = changed after k
-changeOutcome (Refused w) after = changeRefusal after (w .number) (w .row) (w .ring)
+abbrev pub changeRefusal : List ℕ → ℕ → ℕ → ℕ → Change × List ℕ
+changeRefusal before k r g = (Refused (record { number = k; row = r; ring = g }), before)
 
 -- each mark at a place of P becomes m, no other mark changes, and k is how many places P has
 pub record Changes (P : ℕ → Type 0) (m : ℕ) (before after : List ℕ) (k : ℕ) : Type 0 where
@@ -42,27 +25,27 @@ pub record Changes (P : ℕ → Type 0) (m : ℕ) (before after : List ℕ) (k :
   pub count : Count P k
 
 -- nothing is refused, and the marks change so
-pub record Done (P : ℕ → Type 0) (m : ℕ) (before : List ℕ) (o : ChangeOutcome) : Type 0 where
-  pub is : o ≡ changed (o .marks) (o .count)
-  pub marks : Changes P m before (o .marks) (o .count)
+abbrev pub Done : (ℕ → Type 0) → ℕ → List ℕ → Change × List ℕ → Type 0
+Done P m before (Changed k, after) = Changes P m before after k
+Done P m before (Refused w, after) = ⊥
 
 -- 13 and 14, of a net of n nodes: one mark for each branch, and a run's number; then as the rest says
-abbrev pub MarksAndRun : ℕ → List ℕ → ℕ → (ChangeOutcome → Type 0) → ChangeOutcome → Type 0
+abbrev pub MarksAndRun : ℕ → List ℕ → ℕ → (Change × List ℕ → Type 0) → Change × List ℕ → Type 0
 MarksAndRun n before run rest =
-    Unless ChangeOutcome (changeRefusal before 13 0 0) (length before ≡ n - 1)
-    (Unless ChangeOutcome (changeRefusal before 14 0 0) (RunNumber run)
+    Unless (Change × List ℕ) (changeRefusal before 13 0 0) (length before ≡ n - 1)
+    (Unless (Change × List ℕ) (changeRefusal before 14 0 0) (RunNumber run)
     rest)
 
 -- each branch held by the run becomes m
-abbrev pub Settling : ℕ → ℕ → List ℕ → ℕ → ChangeOutcome → Type 0
+abbrev pub Settling : ℕ → ℕ → List ℕ → ℕ → Change × List ℕ → Type 0
 Settling m n before run = MarksAndRun n before run (Done (λ r. HeldBy run (at before r)) m before)
 
-abbrev pub Settles : ℕ → List ℕ → List ℕ → ℕ → ChangeOutcome → Type 0
-Settles m s before run = Begins ChangeOutcome (changeRefusal before) s (Settling m (nodesOf s) before run)
+abbrev pub Settles : ℕ → List ℕ → List ℕ → ℕ → Change × List ℕ → Type 0
+Settles m s before run = Begins (Change × List ℕ) (changeRefusal before) s (Settling m (nodesOf s) before run)
 
 -- commit: spent; abort: free
-abbrev pub Commits : List ℕ → List ℕ → ℕ → ChangeOutcome → Type 0
+abbrev pub Commits : List ℕ → List ℕ → ℕ → Change × List ℕ → Type 0
 Commits = Settles spent
 
-abbrev pub Aborts : List ℕ → List ℕ → ℕ → ChangeOutcome → Type 0
+abbrev pub Aborts : List ℕ → List ℕ → ℕ → Change × List ℕ → Type 0
 Aborts = Settles free

@@ -5,7 +5,6 @@ ghost use Prim.Native.Nat.{_<_};
 ghost use lib.ListN.{length};
 ghost use Rattle.tree.specs.work.Net.{Net};
 ghost use Rattle.marks.specs.Mark.{free};
-ghost use Rattle.marks.specs.Change.{changeOutcome};
 ghost use Rattle.marks.specs.Claim.{Claiming, Ended};
 ghost use Rattle.marks.specs.work.Climbs.{
   one-free,
@@ -113,7 +112,7 @@ fn claim_path(
     requires { ⌜ ClaimReady (now s) (now marks) nodes run a b
         × WalkOf (now s) nodes (now parent) (now half) (now place) ⌝ }
     ensures { λ r. ⌜ Ended (now (s .entry)) nodes bound (now (marks .entry)) run a b
-        (changeOutcome r (now (marks .exit))) ⌝ }
+        (r, now (marks .exit)) ⌝ }
 {
     let x = arrays::wide(a);
     let y = arrays::wide(b);
@@ -151,7 +150,7 @@ fn claim_walked(
 ) -> Change
     requires { ⌜ ClaimReady (now s) (now marks) nodes run a b ⌝ }
     ensures { λ r. ⌜ Ended (now (s .entry)) nodes bound (now (marks .entry)) run a b
-        (changeOutcome r (now (marks .exit))) ⌝ }
+        (r, now (marks .exit)) ⌝ }
 {
     let mut parent: [u16; 4096] = [4096; 4096];
     let mut half: [u16; 4096] = [0; 4096];
@@ -173,7 +172,7 @@ pub(crate) fn claim_pair(
 ) -> Change
     requires { ⌜ Net (now s) nodes ⌝ }
     ensures { λ r. ⌜ Claiming (now (s .entry)) nodes bound (now (marks .entry)) run a b
-        (changeOutcome r (now (marks .exit))) ⌝ }
+        (r, now (marks .exit)) ⌝ }
 {
     if marks.len() + 1 != arrays::wide(nodes) {
         return Change::Refused(Refusal {

@@ -2,7 +2,7 @@
 ghost use mathlib.Core.Path.{_≡_};
 ghost use Prim.Native.Nat.{min};
 ghost use Rattle.marks.specs.work.Lifted.{LiftedUnder};
-ghost use Rattle.marks.specs.Change.{changeOutcome, Commits, Aborts};
+ghost use Rattle.marks.specs.Change.{Commits, Aborts};
 ghost use Rattle.marks.specs.Claim.{Claims};
 use crate::along::claim_pair;
 use crate::settle::settle;
@@ -46,7 +46,7 @@ fn lesser(x: u32, y: u32) -> u32
 
 // Each free branch of the path between a and b becomes held by the run.
 pub fn claim(s: &[u8], marks: &mut [u16], run: u16, a: u16, b: u16) -> Change
-    ensures { λ r. ⌜ Claims (now (s .entry)) (now (marks .entry)) run a b (changeOutcome r (now (marks .exit))) ⌝ }
+    ensures { λ r. ⌜ Claims (now (s .entry)) (now (marks .entry)) run a b (r, now (marks .exit)) ⌝ }
 {
     let o = tree::accept(s);
     match o {
@@ -57,14 +57,14 @@ pub fn claim(s: &[u8], marks: &mut [u16], run: u16, a: u16, b: u16) -> Change
 
 // Each branch held by the run becomes spent.
 pub fn commit(s: &[u8], marks: &mut [u16], run: u16) -> Change
-    ensures { λ r. ⌜ Commits (now (s .entry)) (now (marks .entry)) run (changeOutcome r (now (marks .exit))) ⌝ }
+    ensures { λ r. ⌜ Commits (now (s .entry)) (now (marks .entry)) run (r, now (marks .exit)) ⌝ }
 {
     settle(s, marks, run, SPENT)
 }
 
 // Each branch held by the run becomes free.
 pub fn abort(s: &[u8], marks: &mut [u16], run: u16) -> Change
-    ensures { λ r. ⌜ Aborts (now (s .entry)) (now (marks .entry)) run (changeOutcome r (now (marks .exit))) ⌝ }
+    ensures { λ r. ⌜ Aborts (now (s .entry)) (now (marks .entry)) run (r, now (marks .exit)) ⌝ }
 {
     settle(s, marks, run, FREE)
 }

@@ -1,6 +1,5 @@
 -- Laws and theorems of the operation pair, by topic.
 pub mod Shown
 pub mod Only
-pub mod AnswerOnly
 pub mod Theorems
 pub mod Holders

@@ -1,6 +1,6 @@
 -- The operation pair: what its parts ask, and from the way and the hops that they find to the path of the accepted net.
 use Prim.Native.Nat.{ℕ, _-_, _/_, _≤_, _<_}
-use mathlib.Core.Path.{_≡_, refl}
+use mathlib.Core.Path.{_≡_}
 use mathlib.Core.List.{List}
 use native.Mathlib.Omega.{arith}
 use lib.IntN.{ℤ}
@@ -14,7 +14,7 @@ use Rattle.spines.specs.work.Parents.{HeadsAll, Spined, HopsBy}
 use Rattle.paths.specs.work.Ground.{Ground}
 use Rattle.paths.specs.work.Paths.{Begun}
 use Rattle.ground.specs.PathOf.{PathOf}
-use Rattle.pair.specs.Pair.{pairOutcome, ShowsPath}
+use Rattle.pair.specs.Pair.{ShowsPath}
 use Rattle.ground.specs.work.Grounded.{Grounded}
 use Rattle.pair.specs.work.Way.{WayOf}
 use Rattle.pair.specs.declared.PairAnswer.the-variants.{Found}
@@ -46,14 +46,10 @@ module _ {s marks parent order place bl bw : List ℕ} {n x y nodes a b : ℕ} (
     pub pair-short : l ≤ 4095000000
     pair-short = path-short (stands .net) (low .0) path
 
-    pub pair-shown : {h : ℕ} → HopsBy n parent place x y h → ShowsPath s marks nodes a b (pairOutcome (Found l w h))
+    pub pair-shown : {h : ℕ} → HopsBy n parent place x y h → ShowsPath s marks nodes a b (Found l w h)
     pair-shown h =
-        rw (← e, ← ex, ← ey)
-        (record {
-          number = refl;
-          row = refl;
-          ring = refl;
-          path = path;
-          hops = h .hops (firstEnd s) (secondEnd s) (n - 1) (λ v. at (stands .half) v / 2)
-              (walk-rooted (stands .net) (stands .walked));
-        })
+        rw (← e, ← ex, ← ey) (
+          path,
+          h .hops (firstEnd s) (secondEnd s) (n - 1) (λ v. at (stands .half) v / 2)
+              (walk-rooted (stands .net) (stands .walked)),
+        )

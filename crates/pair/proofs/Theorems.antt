@@ -1,11 +1,12 @@
--- Theorems on the pair's answer: what an answer without a number shows, that its hops are bounded, and that the order
+-- Theorems on the pair's answer: what an answer that is no refusal shows, that its hops are bounded, and that the order
 -- of the two nodes does not matter.
 use Prim.Native.Nat.{ℕ, _+_, _-_, _*_, _≤_}
-use mathlib.Core.Path.{_≡_}
+use mathlib.Core.Path.{_≡_, ap}
 use mathlib.Core.List.{List}
 use native.Mathlib.Omega.{arith}
+use lib.IntN.{ℤ}
 use Rattle.table.specs.Header.{nodesOf}
-use Rattle.table.proofs.Refusals.{past, unless-map, unless-alike, not-refused}
+use Rattle.table.proofs.Refusals.{past, unless-map, unless-alike}
 use Rattle.tree.specs.Count.{Count}
 use Rattle.tree.specs.Net.{firstEnd, secondEnd, TwoNodes}
 use Rattle.tree.specs.work.Net.{Net}
@@ -15,41 +16,41 @@ use Rattle.spines.specs.Spine.{ChildOf, Leaf}
 use Rattle.spines.specs.FloorLog.{FloorLog}
 use Rattle.spines.proofs.HopsBound.{hops-flip}
 use Rattle.spines.proofs.Theorems.{hops-at-most}
-use Rattle.pair.specs.Pair.{PairOutcome, pairRefusal, ShowsPath, Measures, PairOf}
+use Rattle.pair.specs.Pair.{pairRefusal, ShowsPath, Measures, PairOf}
+use Rattle.pair.specs.declared.PairAnswer.{PairAnswer}
+use Rattle.pair.specs.declared.PairAnswer.the-variants.{Found, Refused}
 use Rattle.pair.proofs.Only.{measures-only}
 
-module _ (s marks : List ℕ) (a b : ℕ) (x : PairOutcome) (z : x .number ≡ 0) (p : PairOf s marks a b x) where
-  plain : (k r g : ℕ) → (k ≡ 0 → ⊥) → pairRefusal k r g ≡ x → ⊥
-  plain k r g = not-refused (λ (o : PairOutcome). o .number) z
+abbrev taken : PairAnswer → ℕ
+taken (Found l w h) = 1
+taken (Refused why) = 0
 
-  -- an answer without a number shows the path between two different nodes of an accepted net
-  pub pair-shows : Net s (nodesOf s) × TwoNodes (nodesOf s) a b × ShowsPath s marks (nodesOf s) a b x
+module _ (s marks : List ℕ) (a b : ℕ) {l h : ℕ} {w : ℤ} (p : PairOf s marks a b (Found l w h)) where
+  plain : (k r g : ℕ) → pairRefusal k r g ≡ Found l w h → ⊥
+  plain k r g e = omega (arith, ap taken e)
+
+  -- an answer that is no refusal shows the path between two different nodes of an accepted net
+  pub pair-shows : Net s (nodesOf s) × TwoNodes (nodesOf s) a b × ShowsPath s marks (nodesOf s) a b (Found l w h)
   pair-shows =
       let n = begins-past pairRefusal s plain p in
-      let q = past (plain 13 0 0 (λ e. omega arith)) (n .1) in
-      let r = past (plain 15 0 0 (λ e. omega arith)) (q .1) in
+      let r = past (plain 15 0 0) (past (plain 13 0 0) (n .1) .1) in
       (n .0, r .0, r .1)
 
   -- its hops are at most 1 + 2 × floor(log2 of the number of leaves)
-  pub pair-hops : (l c : ℕ)
-      → Count (Leaf (ChildOf (firstEnd s) (secondEnd s) (nodesOf s - 1) (nodesOf s)) (nodesOf s)) l → FloorLog l c
-      → x .hops ≤ 1 + 2 * c
-  pair-hops l c h f = let q = pair-shows in hops-at-most (q .0) (q .1 .first) (q .1 .second) (q .2 .hops) h f
+  pub pair-hops : (m c : ℕ)
+      → Count (Leaf (ChildOf (firstEnd s) (secondEnd s) (nodesOf s - 1) (nodesOf s)) (nodesOf s)) m → FloorLog m c
+      → h ≤ 1 + 2 * c
+  pair-hops m c k f = let q = pair-shows in hops-at-most (q .0) (q .1 .first) (q .1 .second) (q .2 .1) k f
 
 -- Either order
-shows-flip : {s marks : List ℕ} {n a b : ℕ} {x : PairOutcome} → ShowsPath s marks n a b x → ShowsPath s marks n b a x
-shows-flip {s} p =
-    record {
-      number = p .number;
-      row = p .row;
-      ring = p .ring;
-      path = value-flip (firstEnd s) (secondEnd s) (p .path);
-      hops = hops-flip (p .hops);
-    }
+shows-flip : (s marks : List ℕ) (n a b : ℕ) (x : PairAnswer) → ShowsPath s marks n a b x → ShowsPath s marks n b a x
+shows-flip s marks n a b (Found l w h) p = (value-flip (firstEnd s) (secondEnd s) (p .0), hops-flip (p .1))
+shows-flip s marks n a b (Refused why) p = p
 
-measures-flip : {s marks : List ℕ} {n a b : ℕ} {x : PairOutcome} → Measures s marks n a b x → Measures s marks n b a x
-measures-flip = unless-map (λ o. o) (λ _. unless-alike two-flip two-flip shows-flip)
+measures-flip : {s marks : List ℕ} {n a b : ℕ} {x : PairAnswer} → Measures s marks n a b x → Measures s marks n b a x
+measures-flip {s} {marks} {n} {a} {b} {x} =
+    unless-map (λ o. o) (λ _. unless-alike two-flip two-flip (shows-flip s marks n a b x))
 
-pub pair-either : (s marks : List ℕ) (a b : ℕ) (x y : PairOutcome) → PairOf s marks a b x → PairOf s marks b a y → x ≡ y
+pub pair-either : (s marks : List ℕ) (a b : ℕ) (x y : PairAnswer) → PairOf s marks a b x → PairOf s marks b a y → x ≡ y
 pair-either s marks a b =
     begins-alike pairRefusal s (λ t x y p q. measures-only s marks (nodesOf s) b a t x y (measures-flip p) q)

@@ -5,7 +5,7 @@ ghost use Rattle.tree.specs.work.Net.{Net};
 ghost use Rattle.tree.specs.Net.{TwoNodes};
 ghost use Rattle.paths.specs.work.Ground.{Ground};
 ghost use Rattle.paths.specs.work.Paths.{Begun};
-ghost use Rattle.pair.specs.Pair.{pairOutcome, ShowsPath, Measures, PairOf};
+ghost use Rattle.pair.specs.Pair.{ShowsPath, Measures, PairOf};
 ghost use Rattle.pair.specs.work.Way.{WayOf};
 use ground::grounded;
 use tree::Acceptance;
@@ -19,7 +19,7 @@ pub enum PairAnswer {
 
 // The path between a and b.
 pub fn pair(s: &[u8], marks: &[u16], a: u16, b: u16) -> PairAnswer
-    ensures { λ r. ⌜ PairOf (now (s .entry)) (now (marks .entry)) a b (pairOutcome r) ⌝ }
+    ensures { λ r. ⌜ PairOf (now (s .entry)) (now (marks .entry)) a b r ⌝ }
 {
     let o = tree::accept(s);
     match o {
@@ -31,7 +31,7 @@ pub fn pair(s: &[u8], marks: &[u16], a: u16, b: u16) -> PairAnswer
 // 13 and 15, then the path, of an accepted net.
 fn measure(s: &[u8], marks: &[u16], nodes: u16, a: u16, b: u16) -> PairAnswer
     requires { ⌜ Net (now s) nodes ⌝ }
-    ensures { λ r. ⌜ Measures (now (s .entry)) (now (marks .entry)) nodes a b (pairOutcome r) ⌝ }
+    ensures { λ r. ⌜ Measures (now (s .entry)) (now (marks .entry)) nodes a b r ⌝ }
 {
     let n = arrays::wide(nodes);
     if marks.len() != n - 1 {
@@ -68,7 +68,7 @@ fn measure(s: &[u8], marks: &[u16], nodes: u16, a: u16, b: u16) -> PairAnswer
 // The path between two different nodes.
 fn show(s: &[u8], marks: &[u16], nodes: u16, a: u16, b: u16) -> PairAnswer
     requires { ⌜ Net (now s) nodes × TwoNodes nodes a b ⌝ }
-    ensures { λ r. ⌜ ShowsPath (now (s .entry)) (now (marks .entry)) nodes a b (pairOutcome r) ⌝ }
+    ensures { λ r. ⌜ ShowsPath (now (s .entry)) (now (marks .entry)) nodes a b r ⌝ }
 {
     let mut parent: [u16; 4096] = [4096; 4096];
     let mut order: [u16; 4096] = [0; 4096];

@@ -22,7 +22,10 @@ use Rattle.pages.proofs.Rows.{rows-length}
 use Rattle.pages.proofs.Back.{rows-back, entries-next}
 use Rattle.pages.proofs.Pages.{pages-listing, page-full}
 use Rattle.pages.proofs.Calls.{calls-pages}
-use Rattle.listing.specs.Listing.{listingRefusal, ListingOf}
+use Rattle.tree.specs.declared.Refusal.{Refusal}
+use Rattle.listing.specs.Listing.{ListingOf}
+use Rattle.listing.specs.declared.Listed.{Listed}
+use Rattle.listing.specs.declared.Listed.the-variants.{Rows, Refused}
 use Rattle.listing.proofs.Few.{listing-room, listing-few}
 use Rattle.listing.proofs.Only.{listing-page}
 use Rattle.ground.proofs.Bounds.{passes-fits}
@@ -37,24 +40,28 @@ use Rattle.reporting.specs.work.Pieces.{Comes, Paging}
 use Rattle.reporting.proofs.Coming.{rest-as, comes-before, out-before}
 
 -- a call that is ready is answered by a page
-pub ready-taken : {s marks lent bytes : List ℕ} {floor : ℤ} {low high k r g : ℕ} → ListingReady s marks lent
-    → ListingOf s marks floor low high lent (listingRefusal bytes k r g) → ⊥
-ready-taken {s} {marks} {floor = floor} r p =
-    true≢false (answered _ s marks floor (r .accepted) (r .marked) (r .room) p .0)
+pub ready-taken : {s marks lent bytes : List ℕ} {floor : ℤ} {low high : ℕ} {why : Refusal}
+    → ListingReady s marks lent → ListingOf s marks floor low high lent (Refused why, bytes) → ⊥
+ready-taken {s} {marks} {bytes = bytes} {floor = floor} {why = why} r p =
+    let e = answered _ s marks floor (r .accepted) (r .marked) (Refused why, bytes) (r .room) p .2 in
+    omega (arith, ap taken e)
+  where
+    taken : Listed → ℕ
+    taken (Rows w l) = 1
+    taken (Refused v) = 0
 
 pub ready-asked : {s marks lent bytes : List ℕ} {floor : ℤ} {low high written left : ℕ} → ListingReady s marks lent
-    → ListingOf s marks floor low high lent
-    (record { refused = false; number = 0; row = 0; ring = 0; written = written; left = left; bytes = bytes })
+    → ListingOf s marks floor low high lent (Rows written left, bytes)
     → Asked s marks floor low high bytes written left
 ready-asked {s} {marks} {lent} {bytes} {floor} {low} {high} {written} {left} r p =
-    let n = listing-page _ s marks floor low high lent _ refl p in
+    let n = listing-page _ s marks floor low high lent p in
     record {
       net = n .0;
       lent = lent;
       room = r .room;
       page = n .1;
-      inside = listing-room _ s marks floor low high lent _ refl p;
-      few = listing-few _ s marks floor low high lent _ refl p;
+      inside = listing-room _ s marks floor low high lent p;
+      few = listing-few _ s marks floor low high lent p;
     }
 
 module _ {s marks : List ℕ} {floor : ℤ} {low high : ℕ} {bytes : List ℕ} {written left : ℕ}

@@ -10,13 +10,16 @@ use mir.Syntax.{w64}
 use mir.Val.{SFits, toZ, ofZ}
 use mir.ValLaws.{toZ-ofZ}
 use Rattle.table.specs.Header.{nodesOf, boundOf}
-use Rattle.tree.specs.Accept.{netAccepted, acceptanceRefusal, Accepts}
+use Rattle.tree.specs.Accept.{acceptanceRefusal, Accepts}
+use Rattle.tree.specs.declared.Acceptance.the-variants.{Accepted}
 use Rattle.tree.proofs.Begins.{admitted}
 use Rattle.pages.specs.Listing.{Entry, entry, Listing}
 use Rattle.pages.specs.Passes.{Passes}
 use Rattle.pages.proofs.Pages.{whole-follows}
 use Rattle.ground.specs.PathOf.{PathOf}
-use Rattle.heaviest.specs.Heaviest.{heaviestRefusal, heaviestFound, HeaviestOf, Heaviest}
+use Rattle.heaviest.specs.Heaviest.{heaviestRefusal, HeaviestOf, Heaviest}
+use Rattle.heaviest.specs.declared.HeaviestAnswer.{HeaviestAnswer}
+use Rattle.heaviest.specs.declared.HeaviestAnswer.the-variants.{Between}
 use Rattle.ground.proofs.Bounds.{passes-fits}
 use Rattle.heaviest.proofs.Demand2.{InReach, found-best}
 use Rattle.text.specs.work.Put.{Put}
@@ -35,7 +38,7 @@ module _ (s : List ℕ) (k r g : ℕ) (kf : k < 18446744073709551616) (rf : r < 
   pub refused-rest : Accepts s (acceptanceRefusal k r g) → Rest s 0 (refusedText k r g)
   refused-rest p = rest-all (refused p) (omega (arith, refused-few k r g kf rf gf))
 
-  pub none-rest : (marks : List ℕ) (n b : ℕ) → Accepts s (netAccepted n b) → marks ≡ allFree n
+  pub none-rest : (marks : List ℕ) (n b : ℕ) → Accepts s (Accepted n b) → marks ≡ allFree n
       → HeaviestOf s marks (heaviestRefusal k r g) → Rest s 0 (refusedText k r g)
   none-rest marks n b a e p =
       rest-all (none {n = n} {b = b} a (rw e at p)) (omega (arith, refused-few k r g kf rf gf))
@@ -44,24 +47,19 @@ as-weighing : (s marks : List ℕ) (n b n₂ b₂ : ℕ) (e : Entry) {l : List E
     → Listing (Passes (PathOf s marks n₂) (λ l. l ≤ b₂) (λ w. w ≡ e .weight) n₂) l → Listing (Weighing s n b e) l
 as-weighing s marks n b n₂ b₂ e h k f w = let g : marks ≡ allFree n₂ = rw h at f in rw (h, k) (rw g at w)
 
-pub entry-of : (e g : Entry) → heaviestFound e ≡ heaviestFound g → g ≡ e
-entry-of e g h = sym (λ i. record { low = h i .low; high = h i .high; length = h i .length; weight = h i .weight })
-
-pub best-run : (s marks : List ℕ) (e : Entry) → HeaviestOf s marks (heaviestFound e)
-    → Heaviest (InReach s marks) e
-best-run s marks e p =
-    let g = found-best s marks (heaviestFound e) refl p in
-    rw (entry-of e (g .0) (g .2)) at (g .1)
+-- the answer that gives an entry
+abbrev pub between : Entry → HeaviestAnswer
+between e = Between (e .low) (e .high) (e .length) (e .weight)
 
 -- the lines of a net that has a heaviest run, once the first page is asked for
-module _ (s marks : List ℕ) (n b : ℕ) (e : Entry) {rows : List ℕ} {written left : ℕ} (a : Accepts s (netAccepted n b))
-    (f : marks ≡ allFree n) (p : HeaviestOf s marks (heaviestFound e))
+module _ (s marks : List ℕ) (n b : ℕ) (e : Entry) {rows : List ℕ} {written left : ℕ} (a : Accepts s (Accepted n b))
+    (f : marks ≡ allFree n) (p : HeaviestOf s marks (between e))
     (q : Asked s marks (e .weight) 0 0 rows written left) where
   listed : Listing (Weighing s n b e) (q .page .page .rows)
   listed =
       let t = admitted s n b a in
       as-weighing s marks n b (nodesOf s) (boundOf s) e (t .nodes) (t .bound) f
-      (same-weight s marks e (best-run s marks e p) (whole-follows (λ x g. g .pair) (q .page .page .all)))
+      (same-weight s marks e (found-best s marks p) (whole-follows (λ x g. g .pair) (q .page .page .all)))
 
   number : length (q .page .page .rows) ≡ written + left
   number = omega (arith, q .page .count, q .page .page .rest)
@@ -79,7 +77,7 @@ module _ (s marks : List ℕ) (n b : ℕ) (e : Entry) {rows : List ℕ} {written
         length-append (netText n b) (bestText e),
         length-append (pairsText (q .page .page .rows)) (totalText (length (q .page .page .rows))),
         net-few n b (omega (arith, t .net .few)) h,
-        best-few e (passes-fits s marks (q .net) (best-run s marks e p .one)),
+        best-few e (passes-fits s marks (q .net) (found-best s marks p .one)),
         pairs-few (q .page .page .rows) (λ x m. passes-fits s marks (q .net) (q .page .page .all .sound x m .0)),
         total-few (length (q .page .page .rows)) (omega (arith, number, q .few)),
         number,
@@ -102,7 +100,7 @@ pub marks-free : {branches : List ℕ} {n m : ℕ} → branches ≡ replicate 40
     → take m branches ≡ allFree n
 marks-free {n = n} e h k = rw (e, k) (free-part (n - 1) 4095 (omega arith))
 
-pub ready-free : {s marks rows : List ℕ} {n b : ℕ} → Accepts s (netAccepted n b) → marks ≡ allFree n → 16 ≤ length rows
+pub ready-free : {s marks rows : List ℕ} {n b : ℕ} → Accepts s (Accepted n b) → marks ≡ allFree n → 16 ≤ length rows
     → ListingReady s marks rows
 ready-free {s} {n = n} {b = b} a e h =
     let t = admitted s n b a in
@@ -117,7 +115,7 @@ bits-say {b} z e f = let g = toZ-ofZ w64 z f in ap (toZ w64) e ∙ ap (λ (y : �
 
 -- the first two lines come next, and then those of the first page; the weight by its bits, as the code carries it
 module _ {s : List ℕ} (n b low high len bits : ℕ) (w : ℤ) {rows o out : List ℕ} {written left m : ℕ}
-    (a : Accepts s (netAccepted n b)) (p : HeaviestOf s (allFree n) (heaviestFound (entry low high len w)))
+    (a : Accepts s (Accepted n b)) (p : HeaviestOf s (allFree n) (between (entry low high len w)))
     (q : Asked s (allFree n) w 0 0 rows written left) (small : b < 18446744073709551616) (small-weight : SFits w64 w)
     (e : toZ w64 bits ≡ w) (put : Put o 0 (netText n b ++ bestText (entry low high len (toZ w64 bits))) out m) where
   abbrev best : Entry

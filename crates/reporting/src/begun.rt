@@ -2,9 +2,8 @@
 ghost use Prim.Native.Nat.{_≤_};
 ghost use mathlib.Core.Path.{_≡_};
 ghost use lib.ListN.{length};
-ghost use Rattle.tree.specs.Accept.{netAccepted as acceptedAs, Accepts};
-ghost use Rattle.pages.specs.Listing.{entry};
-ghost use Rattle.heaviest.specs.Heaviest.{HeaviestOf, heaviestFound};
+ghost use Rattle.tree.specs.Accept.{Accepts};
+ghost use Rattle.heaviest.specs.Heaviest.{HeaviestOf};
 ghost use Rattle.lines.specs.Lines.{refusedText};
 ghost use Rattle.reporting.specs.Report.{allFree, Rest};
 ghost use Rattle.reporting.specs.work.Pieces.{ReportLent, Shown};
@@ -36,9 +35,9 @@ fn lined(
     rows: &mut [u8],
     out: &mut [u8],
 ) -> Piece
-    requires { ⌜ Accepts (now s) (acceptedAs nodes bound)
+    requires { ⌜ Accepts (now s) (Acceptance.Accepted nodes bound)
         × (now marks ≡ allFree nodes)
-        × HeaviestOf (now s) (now marks) (heaviestFound (entry low high len weight))
+        × HeaviestOf (now s) (now marks) (HeaviestAnswer.Between low high len weight)
         × (16 ≤ length (now rows))
         × (65536 ≤ length (now out)) ⌝ }
     ensures { λ r. ⌜ Shown (now (s .entry)) (now (rows .exit)) (now (out .exit)) r × (r .place ≡ 0) ⌝ }
@@ -76,7 +75,7 @@ fn accepted(
     rows: &mut [u8],
     out: &mut [u8],
 ) -> Piece
-    requires { ⌜ Accepts (now s) (acceptedAs nodes bound) × ReportLent (now branches) (now rows) (now out) ⌝ }
+    requires { ⌜ Accepts (now s) (Acceptance.Accepted nodes bound) × ReportLent (now branches) (now rows) (now out) ⌝ }
     ensures { λ r. ⌜ Shown (now (s .entry)) (now (rows .exit)) (now (out .exit)) r × (r .place ≡ 0) ⌝ }
 {
     let n = (nodes as usize) - 1;

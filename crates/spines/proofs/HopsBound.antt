@@ -8,7 +8,7 @@ use native.Mathlib.Omega.{arith}
 use native.Mathlib.Decide.{ℕ-discrete}
 use Rattle.arrays.specs.At.{at}
 use Rattle.tree.specs.Count.{Count}
-use Rattle.tree.specs.Graph.{Forest}
+use Rattle.tree.specs.work.Forest.{Forest}
 use Rattle.tree.specs.work.Rooted.{Above, self, up, Passed, Rooted}
 use Rattle.tree.proofs.Counts.{count-unique, count-same}
 use Rattle.tree.proofs.OnePath.{unique}

@@ -6,7 +6,8 @@ use mathlib.Core.Logic.{_⊎_, inl, inr, _≢_, ⊎-elim}
 use mathlib.Core.List.{List, [], _∷_, _++_}
 use native.Mathlib.Omega.{arith}
 use Rattle.arrays.specs.Members.{In}
-use Rattle.tree.specs.Graph.{Ends, Forest}
+use Rattle.tree.specs.Graph.{Ends}
+use Rattle.tree.specs.work.Forest.{Forest}
 use Rattle.tree.specs.work.Rooted.{Above, self, up, Rooted}
 use Rattle.arrays.proofs.Members.{distinct-snoc}
 use Rattle.tree.proofs.Rows.{ends-flip, other}

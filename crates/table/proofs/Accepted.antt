@@ -7,14 +7,15 @@ use native.Mathlib.Omega.{arith}
 use lib.ListN.{length, take}
 use native.Mathlib.Nat.{sub-zero}
 use Rattle.table.specs.Refuse.{refused, passed, fine, Only}
-use Rattle.table.specs.Bytes.{byteAt}
+use Rattle.arrays.specs.At.{at}
 use Rattle.table.specs.Signed.{InRange}
 use Rattle.table.specs.Header.{Header, Lettered, versionOf, nodesOf, boundOf}
 use Rattle.table.specs.Row.{rowAt, Stands}
 use Rattle.table.specs.Examine.{RowNumber, Rows, Tested}
-use Rattle.table.specs.Outcome.{OpeningOutcome, openingOutcome, openingRefusal, tableOpened, Opens, Examines}
+use Rattle.table.specs.Opens.{openingRefusal, Opens, Examines}
 use Rattle.table.specs.declared.Row.{Row}
 use Rattle.table.specs.declared.Refusal.{Refusal}
+use Rattle.table.specs.declared.Opening.{Opening}
 use Rattle.table.specs.declared.Opening.the-variants.{Opened, Refused}
 use Rattle.table.proofs.Refusals.{
   past,
@@ -24,7 +25,6 @@ use Rattle.table.proofs.Refusals.{
   unless-only,
   unless-map,
   first-bad-map,
-  not-refused,
 }
 
 -- what a header that is not refused has
@@ -34,7 +34,7 @@ pub record Headed (s : List ℕ) : Type 0 where
   pub version : versionOf s ≡ 1
   pub some : 1 ≤ nodesOf s
   pub few : nodesOf s ≤ 4096
-  pub reserved : byteAt s 7 ≡ 0
+  pub reserved : at s 7 ≡ 0
   pub size : length s ≡ 12 * nodesOf s
 
 -- what a row that is not refused has
@@ -53,15 +53,15 @@ pub record Accepted (s : List ℕ) (n b : ℕ) : Type 0 where
   pub stands : (r : ℕ) → r + 1 < n → Stands s r
   pub rows : (r : ℕ) → r + 1 < n → Good n (rowAt s r)
 
-module _ {A : Type 0} (openingRefusal : ℕ → ℕ → A) {s : List ℕ} {rest : A → Type 0} {x : A} where
-  pub past-header : Headed s → rest x → Header A openingRefusal s rest x
+module _ {A : Type 0} (refuse : ℕ → ℕ → A) {s : List ℕ} {rest : A → Type 0} {x : A} where
+  pub past-header : Headed s → rest x → Header A refuse s rest x
   past-header h r =
       passed (h .long)
       (passed (h .letters)
       (passed (h .version) (passed (h .some, h .few) (passed (h .reserved) (passed (h .size) r)))))
 
   -- an outcome that is none of these refusals comes of a good header
-  pub header-past : ((k r : ℕ) → (k ≡ 0 → ⊥) → k ≤ 10 → openingRefusal k r ≡ x → ⊥) → Header A openingRefusal s rest x
+  pub header-past : ((k r : ℕ) → (k ≡ 0 → ⊥) → k ≤ 10 → refuse k r ≡ x → ⊥) → Header A refuse s rest x
       → Headed s × rest x
   header-past n p =
       let a = past (n 1 0 (λ e. omega arith) (omega arith)) p in
@@ -83,17 +83,17 @@ module _ {A : Type 0} (openingRefusal : ℕ → ℕ → A) {s : List ℕ} {rest 
       )
 
   -- a good header refuses nothing
-  pub header-rest : Headed s → Header A openingRefusal s rest x → rest x
+  pub header-rest : Headed s → Header A refuse s rest x → rest x
   header-rest h p =
       settled (h .size)
       (settled (h .reserved)
       (settled (h .some, h .few) (settled (h .version) (settled (h .letters) (settled (h .long) p)))))
 
 -- a refusal of the header stays one in another type of outcome, whatever follows a good header there
-pub header-map : {A B : Type 0} (f : A → B) (openingRefusal : ℕ → ℕ → A) (s : List ℕ) {rest : A → Type 0}
-    {rest′ : B → Type 0} {x : A} → (Headed s → rest x → rest′ (f x)) → Header A openingRefusal s rest x
-    → Header B (λ k r. f (openingRefusal k r)) s rest′ (f x)
-header-map f openingRefusal s g p =
+pub header-map : {A B : Type 0} (f : A → B) (refuse : ℕ → ℕ → A) (s : List ℕ) {rest : A → Type 0}
+    {rest′ : B → Type 0} {x : A} → (Headed s → rest x → rest′ (f x)) → Header A refuse s rest x
+    → Header B (λ k r. f (refuse k r)) s rest′ (f x)
+header-map f refuse s g p =
     unless-map f
     (λ a. unless-map f
     (λ b. unless-map f
@@ -106,7 +106,7 @@ header-map f openingRefusal s g p =
 
 -- a table whose header and rows are good: 1 to 10 refuse nothing
 abbrev pub GoodTable : List ℕ → Type 0
-GoodTable s = Examines s (tableOpened (nodesOf s) (boundOf s))
+GoodTable s = Examines s (Opened (nodesOf s) (boundOf s))
 
 abbrev pub GoodRows : List ℕ → Type 0
 GoodRows s = (r : ℕ) → r < nodesOf s - 1 → RowNumber (nodesOf s) (rowAt s r) 0
@@ -135,33 +135,44 @@ module _ {A : Type 0} (refuse : ℕ → ℕ → A) (s : List ℕ) {rest : A → 
       → GoodTable s × rest x
   tested-past n p = let t = both-good n p in (good-table (t .0) (t .1), t .2)
 
-pub tested-map : {A B : Type 0} (f : A → B) (openingRefusal : ℕ → ℕ → A) (s : List ℕ) {rest : A → Type 0}
-    {rest′ : B → Type 0} {x : A} → (GoodTable s → rest x → rest′ (f x)) → Tested A openingRefusal s rest x
-    → Tested B (λ k r. f (openingRefusal k r)) s rest′ (f x)
-tested-map f openingRefusal s g p =
-    header-map f openingRefusal s (λ h. first-bad-map f (λ rows. g (good-table h rows))) p
+pub tested-map : {A B : Type 0} (f : A → B) (refuse : ℕ → ℕ → A) (s : List ℕ) {rest : A → Type 0}
+    {rest′ : B → Type 0} {x : A} → (GoodTable s → rest x → rest′ (f x)) → Tested A refuse s rest x
+    → Tested B (λ k r. f (refuse k r)) s rest′ (f x)
+tested-map f refuse s g p =
+    header-map f refuse s (λ h. first-bad-map f (λ rows. g (good-table h rows))) p
 
--- what is found is no refusal
-unnumbered : {n b : ℕ} (k r : ℕ) → (k ≡ 0 → ⊥) → k ≤ 10 → openingRefusal k r ≡ tableOpened n b → ⊥
-unnumbered k r n _ = not-refused (λ (o : OpeningOutcome). o .number) refl n
+-- an opened table's two numbers, and that it is no refusal
+abbrev nodesIn : Opening → ℕ
+nodesIn (Opened n b) = n
+nodesIn (Refused w) = 0
 
--- a refusal finds nothing: its node count is 0
-pub nothing-found : {n b k r : ℕ} → 1 ≤ n → openingRefusal k r ≡ tableOpened n b → ⊥
-nothing-found h e = omega (arith, ap (λ (o : OpeningOutcome). o .nodes) e)
+abbrev boundIn : Opening → ℕ
+boundIn (Opened n b) = b
+boundIn (Refused w) = 0
 
-pub opened : (s : List ℕ) (n b : ℕ) → Opens s (openingOutcome (Opened n b))
+pub nothing-found : {n b : ℕ} {w : Refusal} → Refused w ≡ Opened n b → ⊥
+nothing-found e = omega (arith, ap taken e)
+  where
+    taken : Opening → ℕ
+    taken (Opened n b) = 1
+    taken (Refused w) = 0
+
+unnumbered : {n b : ℕ} (k r : ℕ) → (k ≡ 0 → ⊥) → k ≤ 10 → openingRefusal k r ≡ Opened n b → ⊥
+unnumbered k r _ _ e = nothing-found e
+
+pub opened : (s : List ℕ) (n b : ℕ) → Opens s (Opened n b)
     → Headed s × (n ≡ nodesOf s) × (b ≡ boundOf s)
 opened s n b p =
     let h = header-past openingRefusal unnumbered p in
-    (h .0, ap (λ (o : OpeningOutcome). o .nodes) (h .1), ap (λ (o : OpeningOutcome). o .bound) (h .1))
+    (h .0, ap nodesIn (h .1), ap boundIn (h .1))
 
 -- a refused opening is a refused examination, and an opened table is examined row by row
-pub refused-stays : (s : List ℕ) (w : Refusal) → Opens s (openingOutcome (Refused w))
-    → Examines s (openingOutcome (Refused w))
-refused-stays s w p = header-map (λ o. o) openingRefusal s (λ h e. absurd (nothing-found (h .some) e)) p
+pub refused-stays : (s : List ℕ) (w : Refusal) → Opens s (Refused w)
+    → Examines s (Refused w)
+refused-stays s w p = header-map (λ o. o) openingRefusal s (λ h e. absurd (nothing-found e)) p
 
-pub opened-goes : (s : List ℕ) (n b : ℕ) (o : OpeningOutcome) → Opens s (openingOutcome (Opened n b))
-    → Rows OpeningOutcome openingRefusal s n (λ x. x ≡ tableOpened n b) o → Examines s o
+pub opened-goes : (s : List ℕ) (n b : ℕ) (o : Opening) → Opens s (Opened n b)
+    → Rows Opening openingRefusal s n (λ x. x ≡ Opened n b) o → Examines s o
 opened-goes s n b o p q = let h = opened s n b p in past-header openingRefusal {s = s} (h .0) (rw (h .1, h .2) at q)
 
 -- what a row numbered 0 has, and such a row is numbered 0
@@ -177,21 +188,21 @@ good n q p =
     let d = past (λ e. omega (arith, e)) (c .1) in
     record { first = a .0 .0; second = a .0 .1; apart = b .0; long = c .0; weight-within = d .0 }
 
-pub accepted : (s : List ℕ) (n b : ℕ) → Examines s (openingOutcome (Opened n b)) → Accepted s n b
+pub accepted : (s : List ℕ) (n b : ℕ) → Examines s (Opened n b) → Accepted s n b
 accepted s n b p =
     let t = both-good openingRefusal s unnumbered p in
-    let e : n ≡ nodesOf s = ap (λ (o : OpeningOutcome). o .nodes) (t .2) in
+    let e : n ≡ nodesOf s = ap nodesIn (t .2) in
     record {
       headed = t .0;
       nodes = e;
-      bound = ap (λ (o : OpeningOutcome). o .bound) (t .2);
+      bound = ap boundIn (t .2);
       stands = λ r l. omega (arith, t .0 .size);
       rows = λ r l. rw e (good (nodesOf s) (rowAt s r) (t .1 r (omega arith)));
     }
 
 -- how an operation that begins with `examine` goes on where nothing is refused
 pub passed-on : {A : Type 0} (refuse : ℕ → ℕ → A) {rest : A → Type 0} (s : List ℕ) (n b : ℕ) {x : A}
-    → Examines s (openingOutcome (Opened n b)) → rest x → Tested A refuse s rest x
+    → Examines s (Opened n b) → rest x → Tested A refuse s rest x
 passed-on refuse s n b p r =
     let t = both-good openingRefusal s unnumbered p in
     past-header refuse (t .0) (fine (t .1) r)
@@ -208,9 +219,12 @@ tested-rest refuse s g p =
 
 -- how a function that begins with `open_table` hands a refusal on
 pub refused-header : {A : Type 0} (refuse : ℕ → ℕ → A) {rest : A → Type 0} (s : List ℕ) (w : Refusal)
-    → Opens s (openingOutcome (Refused w)) → Header A refuse s rest (refuse (w .number) (w .row))
-refused-header refuse s w p =
-    header-map (λ o. refuse (o .number) (o .row)) openingRefusal s (λ h e. absurd (nothing-found (h .some) e)) p
+    → Opens s (Refused w) → Header A refuse s rest (refuse (w .number) (w .row))
+refused-header {A} refuse s w p = header-map handed openingRefusal s (λ h e. absurd (nothing-found e)) p
+  where
+    handed : Opening → A
+    handed (Opened n b) = refuse 0 0
+    handed (Refused v) = refuse (v .number) (v .row)
 
 -- all of a list is its part from 0 to its end
 pub take-all : (s : List ℕ) → take (length s - 0) s ≡ s

@@ -5,4 +5,3 @@ pub mod Near
 pub mod Bits
 pub mod Accepted
 pub mod Only
-pub mod AnswerOnly

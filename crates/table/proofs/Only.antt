@@ -15,19 +15,19 @@ use Rattle.table.specs.Row.{Stands, PartOf, NextOf, RowOf, rowAt}
 use Rattle.table.specs.Reader.{HeldOf, Stepped, FirstOf}
 use Rattle.table.specs.work.Lift.{LiftedOf, LoweredOf}
 use Rattle.table.specs.Examine.{Tested}
-use Rattle.table.specs.Outcome.{openingRefusal, Opens, Examines}
+use Rattle.table.specs.Opens.{openingRefusal, Opens, Examines}
 use Rattle.table.proofs.Refusals.{unless-only, first-bad-only}
 use Rattle.table.proofs.Accepted.{row-number-only}
 use Rattle.table.proofs.Lift.{diff-only, lift-only}
 
-pub header-only : {A : Type 0} (openingRefusal : ℕ → ℕ → A) (s : List ℕ) {rest : A → Type 0} → Only rest
-    → Only (Header A openingRefusal s rest)
-header-only openingRefusal s o = unless-only (unless-only (unless-only (unless-only (unless-only (unless-only o)))))
+pub header-only : {A : Type 0} (refuse : ℕ → ℕ → A) (s : List ℕ) {rest : A → Type 0} → Only rest
+    → Only (Header A refuse s rest)
+header-only refuse s o = unless-only (unless-only (unless-only (unless-only (unless-only (unless-only o)))))
 
-pub tested-only : {A : Type 0} (openingRefusal : ℕ → ℕ → A) (s : List ℕ) {rest : A → Type 0} → Only rest
-    → Only (Tested A openingRefusal s rest)
-tested-only openingRefusal s o =
-    header-only openingRefusal s (first-bad-only (λ i. row-number-only (nodesOf s) (rowAt s i)) o)
+pub tested-only : {A : Type 0} (refuse : ℕ → ℕ → A) (s : List ℕ) {rest : A → Type 0} → Only rest
+    → Only (Tested A refuse s rest)
+tested-only refuse s o =
+    header-only refuse s (first-bad-only (λ i. row-number-only (nodesOf s) (rowAt s i)) o)
 
 pub open-only : (s : List ℕ) → Only (Opens s)
 open-only s = header-only openingRefusal s (λ x y p q. p ∙ sym q)

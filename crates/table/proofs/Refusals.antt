@@ -1,7 +1,7 @@
 -- Laws of the forms of refusal: each allows one outcome where its rest does; an outcome that is not the refusal has
--- passed, and one without a number is no refusal; a refusal stays one when the outcome's type changes, by a function
+-- passed; a refusal stays one when the outcome's type changes, by a function
 -- that takes refusals to refusals, and when the good condition is said in other words.
-use mathlib.Core.Path.{_≡_, refl, ap, _∙_}
+use mathlib.Core.Path.{_≡_, refl}
 use Prim.Native.Nat.{ℕ, _<_}
 use native.Mathlib.Decide.{decLt}
 use native.Mathlib.Omega.{arith}
@@ -34,10 +34,6 @@ pub unless-alike : {A : Type 0} {no : A} {Ok Ok′ : Type 0} {rest rest′ : A �
     → (rest x → rest′ x) → Unless A no Ok rest x → Unless A no Ok′ rest′ x
 unless-alike to fro f (refused c) = refused (λ k. c (fro k))
 unless-alike to fro f (passed k p) = passed (to k) (f p)
-
--- an outcome without a number is no refusal, which has one
-pub not-refused : {A : Type 0} (number : A → ℕ) {no x : A} → number x ≡ 0 → (number no ≡ 0 → ⊥) → no ≡ x → ⊥
-not-refused number z n e = n (ap number e ∙ z)
 
 module _ {A : Type 0} {refusal : ℕ → ℕ → A} {m : ℕ} {Number : ℕ → ℕ → Type 0} {rest : A → Type 0} where
   pub first-bad-only : ((i : ℕ) → Only (Number i)) → Only rest → Only (FirstBad A refusal m Number rest)

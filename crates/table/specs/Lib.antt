@@ -3,7 +3,7 @@
 pub mod Bytes
 pub mod Examine
 pub mod Header
-pub mod Outcome
+pub mod Opens
 pub mod Reader
 pub mod Refuse
 pub mod Row

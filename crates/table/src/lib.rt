@@ -8,14 +8,7 @@ ghost use mir.Syntax.{w32};
 ghost use mir.Val.{toZ};
 ghost use denote.Ref.{ptr};
 ghost use Rattle.table.specs.Bytes.{u16At, u32At};
-ghost use Rattle.table.specs.Outcome.{
-  OpeningOutcome,
-  openingOutcome,
-  openingRefusal,
-  tableOpened,
-  Opens,
-  Examines,
-};
+ghost use Rattle.table.specs.Opens.{openingRefusal, Opens, Examines};
 ghost use Rattle.table.specs.Row.{Stands, PartOf, NextOf, RowOf, rowAt};
 ghost use Rattle.table.specs.work.Standing.{Standing};
 ghost use Rattle.table.specs.Examine.{RowNumber, Rows};
@@ -71,7 +64,7 @@ fn u32_at(s: &[u8], i: usize) -> u32
 
 // Tests 1 to 6 alone, in order.
 pub fn open_table(s: &[u8]) -> Opening
-    ensures { λ r. ⌜ Opens (now (s .entry)) (openingOutcome r) ⌝ }
+    ensures { λ r. ⌜ Opens (now (s .entry)) r ⌝ }
 {
     if s.len() < 12 {
         return Opening::Refused(Refusal { number: 1, row: 0 });
@@ -248,8 +241,7 @@ fn row_number(s: &[u8], r: usize, nodes: u16) -> u8
 // Every row in order, after a good header.
 fn rows(s: &[u8], nodes: u16, bound: u32) -> Opening
     requires { ⌜ (1 ≤ nodes) × (12 * nodes ≤ length (now s)) ⌝ }
-    ensures { λ o. ⌜ Rows OpeningOutcome openingRefusal (now (s .entry)) nodes (λ x. x ≡ tableOpened nodes bound)
-        (openingOutcome o) ⌝ }
+    ensures { λ o. ⌜ Rows Opening openingRefusal (now (s .entry)) nodes (λ x. x ≡ Opening.Opened nodes bound) o ⌝ }
 {
     let count = nodes as usize;
     let mut r: usize = 0;
@@ -265,7 +257,7 @@ fn rows(s: &[u8], nodes: u16, bound: u32) -> Opening
 
 // Tests 1 to 10: the header, then row by row.
 pub fn examine(s: &[u8]) -> Opening
-    ensures { λ o. ⌜ Examines (now (s .entry)) (openingOutcome o) ⌝ }
+    ensures { λ o. ⌜ Examines (now (s .entry)) o ⌝ }
 {
     let o = open_table(s);
     match o {

@@ -1,7 +1,6 @@
 -- Acceptance: from the ring test and the walk to refusals 11 and 12; what an accepted table has; how an operation that
 -- begins with 1 to 12 hands a refusal on or goes on, seen through a function or said otherwise; that two such promises
--- give equal outcomes where what follows does, so that each allows one and refuses what acceptance does; and that
--- acceptance allows one answer. What 1 to 12 are is taken apart here, in Outcomes and in Eleven, and in no crate above.
+-- give equal outcomes where what follows does, so that each allows one and refuses what acceptance does. What 1 to 12 are is taken apart here, in Outcomes and in Eleven, and in no crate above.
 use Prim.Native.Nat.{ℕ, _-_, _≤_, _<_}
 use mathlib.Core.Path.{_≡_, refl, sym, ap, _∙_}
 use mathlib.Core.Logic.{_⊎_, inl, inr}
@@ -9,42 +8,46 @@ use mathlib.Core.List.{List}
 use native.Mathlib.Omega.{arith}
 use Rattle.table.specs.Refuse.{refused, passed, bad, fine, Only}
 use Rattle.table.specs.Header.{nodesOf, boundOf}
-use Rattle.table.specs.Outcome.{Examines}
-use Rattle.table.specs.Outcome as T
+use Rattle.table.specs.Opens.{openingRefusal, Examines}
 use Rattle.table.specs.declared.Refusal as why
-use Rattle.table.specs.declared.Opening.the-variants.{Opened}
-use Rattle.table.proofs.Refusals.{past, past-rows, settled, unless-only, unless-map, first-bad-map, not-refused}
+use Rattle.table.specs.declared.Opening.{Opening}
+use Rattle.table.specs.declared.Opening.the-variants as opening
+use Rattle.table.proofs.Refusals.{past, past-rows, settled, unless-only, unless-map, first-bad-map}
 use Rattle.table.proofs.Accepted.{GoodTable, accepted, tested-past, tested-map, tested-rest}
 use Rattle.table.proofs.Accepted as table
 use Rattle.table.proofs.Only.{tested-only}
-use Rattle.tree.specs.Graph.{Forest}
+use Rattle.tree.specs.work.Forest.{Forest}
 use Rattle.tree.specs.Net.{firstEnd, secondEnd, lengthOf, weightOf, Whole}
 use Rattle.tree.specs.work.Net.{Net}
 use Rattle.tree.specs.Ring.{RingRows}
-use Rattle.tree.specs.Accept.{
-  Rings,
-  Begins,
-  AcceptanceOutcome,
-  acceptanceRefusal,
-  netAccepted,
-  acceptanceOutcome,
-  Accepts,
-}
+use Rattle.tree.specs.Accept.{Rings, Begins, acceptanceRefusal, Accepts}
 use Rattle.tree.specs.work.Rows.{Readable, Fitting, Closing}
 use Rattle.tree.specs.work.Union.{FirstRing}
 use Rattle.tree.specs.work.Queue.{Reaches}
 use Rattle.tree.specs.declared.Refusal.{Refusal}
 use Rattle.tree.specs.declared.Acceptance.{Acceptance}
-use Rattle.tree.specs.declared.Acceptance.the-variants as variants
+use Rattle.tree.specs.declared.Acceptance.the-variants.{Accepted, Refused}
 use Rattle.tree.proofs.Grown.{reached-all, all-joined}
 use Rattle.tree.proofs.RingRows.{row-open, rows-open, open-rows, rings-only, rings-settled}
 
--- a refusal finds nothing
-nothing-found : {n b k r g : ℕ} → 1 ≤ n → acceptanceRefusal k r g ≡ netAccepted n b → ⊥
-nothing-found h e = omega (arith, ap (λ (o : AcceptanceOutcome). o .nodes) e)
+-- an accepted net's two numbers, and that it is no refusal
+abbrev nodesIn : Acceptance → ℕ
+nodesIn (Accepted n b) = n
+nodesIn (Refused w) = 0
+
+abbrev boundIn : Acceptance → ℕ
+boundIn (Accepted n b) = b
+boundIn (Refused w) = 0
+
+pub nothing-found : {n b : ℕ} {w : Refusal} → Refused w ≡ Accepted n b → ⊥
+nothing-found e = omega (arith, ap taken e)
+  where
+    taken : Acceptance → ℕ
+    taken (Accepted n b) = 1
+    taken (Refused w) = 0
 
 -- The code's side
-pub fitting : (s : List ℕ) (n b : ℕ) → Examines s (T.openingOutcome (Opened n b)) → Fitting s n
+pub fitting : (s : List ℕ) (n b : ℕ) → Examines s (opening.Opened n b) → Fitting s n
 unfolding firstEnd secondEnd
 fitting s n b p =
     let a = accepted s n b p in
@@ -83,17 +86,17 @@ good-rows : (s : List ℕ) (n r : ℕ) → FirstRing (firstEnd s) (secondEnd s) 
     → RingRows (firstEnd s) (secondEnd s) i 0
 good-rows s n r f l i h = open-rows (firstEnd s) (secondEnd s) (f .forest) i (omega arith)
 
-module _ (s : List ℕ) (n : ℕ) {rest : AcceptanceOutcome → Type 0} where
+module _ (s : List ℕ) (n : ℕ) {rest : Acceptance → Type 0} where
   pub rings-bad : (r g : ℕ) → FirstRing (firstEnd s) (secondEnd s) (n - 1) r → r < n - 1
       → RingRows (firstEnd s) (secondEnd s) r g
-      → Rings AcceptanceOutcome acceptanceRefusal s n rest (acceptanceRefusal 11 r g)
+      → Rings Acceptance acceptanceRefusal s n rest (acceptanceRefusal 11 r g)
   rings-bad r g f l p =
       bad r g l (open-rows (firstEnd s) (secondEnd s) (f .forest)) p
       (λ e. row-open (firstEnd s) (secondEnd s) (rw e at p) (f .closes l))
 
   module _ (r : ℕ) (f : FirstRing (firstEnd s) (secondEnd s) (n - 1) r) (l : n - 1 ≤ r) (g : Fitting s n) (m : ℕ)
       (w : Reaches (firstEnd s) (secondEnd s) (n - 1) m) where
-    pub rings-apart : m < n → Rings AcceptanceOutcome acceptanceRefusal s n rest (acceptanceRefusal 12 0 0)
+    pub rings-apart : m < n → Rings Acceptance acceptanceRefusal s n rest (acceptanceRefusal 12 0 0)
     rings-apart h =
         fine (good-rows s n r f l)
         (refused
@@ -103,7 +106,7 @@ module _ (s : List ℕ) (n : ℕ) {rest : AcceptanceOutcome → Type 0} where
               (g .some) (g .fit) (w .walked) all,
         )))
 
-    pub rings-whole : n ≤ m → {x : AcceptanceOutcome} → rest x → Rings AcceptanceOutcome acceptanceRefusal s n rest x
+    pub rings-whole : n ≤ m → {x : Acceptance} → rest x → Rings Acceptance acceptanceRefusal s n rest x
     rings-whole h p =
         fine (good-rows s n r f l)
         (passed
@@ -112,14 +115,16 @@ module _ (s : List ℕ) (n : ℕ) {rest : AcceptanceOutcome → Type 0} where
         p)
 
 -- a refusal of 1 to 10 stays one, and an examined table goes on to 11 and 12
-pub refused-stays : (s : List ℕ) (w : why.Refusal) → Examines s (T.openingRefusal (w .number) (w .row))
+pub refused-stays : (s : List ℕ) (w : why.Refusal) → Examines s (opening.Refused w)
     → Accepts s (acceptanceRefusal (w .number) (w .row) 0)
-refused-stays s w p =
-    tested-map (λ (o : T.OpeningOutcome). acceptanceRefusal (o .number) (o .row) 0) T.openingRefusal s
-    (λ g e. absurd (table.nothing-found (accepted s (nodesOf s) (boundOf s) g .headed .some) e)) p
+refused-stays s w p = tested-map handed openingRefusal s (λ g e. absurd (table.nothing-found e)) p
+  where
+    handed : Opening → Acceptance
+    handed (opening.Opened n b) = acceptanceRefusal 0 0 0
+    handed (opening.Refused v) = acceptanceRefusal (v .number) (v .row) 0
 
-pub examined-goes : (s : List ℕ) (n b : ℕ) (o : AcceptanceOutcome) → Examines s (T.openingOutcome (Opened n b))
-    → Rings AcceptanceOutcome acceptanceRefusal s n (λ x. x ≡ netAccepted n b) o → Accepts s o
+pub examined-goes : (s : List ℕ) (n b : ℕ) (o : Acceptance) → Examines s (opening.Opened n b)
+    → Rings Acceptance acceptanceRefusal s n (λ x. x ≡ Accepted n b) o → Accepts s o
 examined-goes s n b o p q =
     let a = accepted s n b p in
     table.passed-on (λ k r. acceptanceRefusal k r 0) s n b p (rw (a .nodes, a .bound) at q)
@@ -150,15 +155,14 @@ sound-net {s} t =
 -- How an operation that begins with 1 to 12 goes on
 module _ {A : Type 0} (refuse : ℕ → ℕ → ℕ → A) (s : List ℕ) {rest : A → Type 0} {x : A} where
   -- an outcome that is no refusal comes of such a table
-  begins-sound : ((k r g : ℕ) → (k ≡ 0 → ⊥) → refuse k r g ≡ x → ⊥) → Begins A refuse s rest x → Sound s × rest x
+  begins-sound : ((k r g : ℕ) → refuse k r g ≡ x → ⊥) → Begins A refuse s rest x → Sound s × rest x
   begins-sound plain p =
-      let t = tested-past (λ k r. refuse k r 0) s (λ k r n _. plain k r 0 n) p in
-      let o = past-rows (λ g r _ _. plain 11 r g (λ e. omega (arith, e))) (t .1) in
-      let w = past (plain 12 0 0 (λ e. omega (arith, e))) (o .1) in
+      let t = tested-past (λ k r. refuse k r 0) s (λ k r _ _. plain k r 0) p in
+      let o = past-rows (λ g r _ _. plain 11 r g) (t .1) in
+      let w = past (plain 12 0 0) (o .1) in
       (record { good = t .0; forest = rows-open (firstEnd s) (secondEnd s) (o .0); whole = w .0 }, w .1)
 
-  pub begins-past : ((k r g : ℕ) → (k ≡ 0 → ⊥) → refuse k r g ≡ x → ⊥) → Begins A refuse s rest x
-      → Net s (nodesOf s) × rest x
+  pub begins-past : ((k r g : ℕ) → refuse k r g ≡ x → ⊥) → Begins A refuse s rest x → Net s (nodesOf s) × rest x
   begins-past plain p = let t = begins-sound plain p in (sound-net (t .0), t .1)
 
   -- of such a table the outcome is as the rest says, both ways
@@ -186,37 +190,39 @@ begins-map f refuse s g p =
     p
 
 -- What an accepted table has
-accept-sound : (s : List ℕ) (n b : ℕ) → Accepts s (netAccepted n b)
-    → Sound s × (netAccepted n b ≡ netAccepted (nodesOf s) (boundOf s))
+accept-sound : (s : List ℕ) (n b : ℕ) → Accepts s (Accepted n b)
+    → Sound s × (Accepted n b ≡ Accepted (nodesOf s) (boundOf s))
 accept-sound s n b p =
-    begins-sound acceptanceRefusal s (λ k r g. not-refused (λ (o : AcceptanceOutcome). o .number) refl) p
+    begins-sound acceptanceRefusal s (λ k r g. nothing-found) p
 
 pub record Admitted (s : List ℕ) (n b : ℕ) : Type 0 where
   pub net : Net s n
   pub nodes : n ≡ nodesOf s
   pub bound : b ≡ boundOf s
 
-pub admitted : (s : List ℕ) (n b : ℕ) → Accepts s (acceptanceOutcome (variants.Accepted n b)) → Admitted s n b
+pub admitted : (s : List ℕ) (n b : ℕ) → Accepts s (Accepted n b) → Admitted s n b
 admitted s n b p =
     let t = accept-sound s n b p in
-    let e : n ≡ nodesOf s = ap (λ (o : AcceptanceOutcome). o .nodes) (t .1) in
-    record { net = rw e (sound-net (t .0)); nodes = e; bound = ap (λ (o : AcceptanceOutcome). o .bound) (t .1) }
+    let e : n ≡ nodesOf s = ap nodesIn (t .1) in
+    record { net = rw e (sound-net (t .0)); nodes = e; bound = ap boundIn (t .1) }
 
 -- How an operation that begins with `accept` hands a refusal on, and goes on where there is none
 module _ {A : Type 0} (refuse : ℕ → ℕ → ℕ → A) {rest : A → Type 0} (s : List ℕ) where
-  pub refused-on : (w : Refusal) → Accepts s (acceptanceOutcome (variants.Refused w))
+  pub refused-on : (w : Refusal) → Accepts s (Refused w)
       → Begins A refuse s rest (refuse (w .number) (w .row) (w .ring))
-  refused-on w p =
-      begins-map (λ (o : AcceptanceOutcome). refuse (o .number) (o .row) (o .ring)) acceptanceRefusal s
-      (λ n e. absurd (nothing-found (n .some) e)) p
+  refused-on w p = begins-map handed acceptanceRefusal s (λ n e. absurd (nothing-found e)) p
+    where
+      handed : Acceptance → A
+      handed (Accepted n b) = refuse 0 0 0
+      handed (Refused v) = refuse (v .number) (v .row) (v .ring)
 
-  pub passed-on : (n b : ℕ) {x : A} → Accepts s (acceptanceOutcome (variants.Accepted n b)) → rest x
+  pub passed-on : (n b : ℕ) {x : A} → Accepts s (Accepted n b) → rest x
       → Begins A refuse s rest x
   passed-on n b p r = sound-on refuse s (accept-sound s n b p .0) r
 
 -- an accepted table's outcome is as the rest says
 pub begins-rest : {A : Type 0} (refuse : ℕ → ℕ → ℕ → A) (s : List ℕ) {rest : A → Type 0} {x : A}
-    → Accepts s (netAccepted (nodesOf s) (boundOf s)) → Begins A refuse s rest x → rest x
+    → Accepts s (Accepted (nodesOf s) (boundOf s)) → Begins A refuse s rest x → rest x
 begins-rest refuse s p = sound-rest refuse s (accept-sound s (nodesOf s) (boundOf s) p .0)
 
 -- Two promises that begin alike give equal outcomes, where their rests do of an accepted net
@@ -255,17 +261,3 @@ refused-alike refuse s {x = x} k r g p q =
 
 pub accept-only : (s : List ℕ) → Only (Accepts s)
 accept-only s = begins-only acceptanceRefusal s (λ x y p q. p ∙ sym q)
-
--- one answer: no refusal, whatever its number, has the outcome of an accepted net, which has a node
-pub accept-answer-only : (s : List ℕ) (x y : Acceptance) → Accepts s (acceptanceOutcome x)
-    → Accepts s (acceptanceOutcome y) → x ≡ y
-accept-answer-only s x y p q = same x y p q (accept-only s _ _ p q)
-  where
-    same : (x y : Acceptance) → Accepts s (acceptanceOutcome x) → Accepts s (acceptanceOutcome y)
-        → acceptanceOutcome x ≡ acceptanceOutcome y → x ≡ y
-    same (variants.Accepted n b) (variants.Accepted m c) p q e = λ i. variants.Accepted (e i .nodes) (e i .bound)
-    same (variants.Accepted n b) (variants.Refused w) p q e =
-        absurd (nothing-found (admitted s n b p .net .some) (sym e))
-    same (variants.Refused w) (variants.Accepted n b) p q e = absurd (nothing-found (admitted s n b q .net .some) e)
-    same (variants.Refused w) (variants.Refused v) p q e =
-        λ i. variants.Refused (record { number = e i .number; row = e i .row; ring = e i .ring })

@@ -12,10 +12,14 @@ use Rattle.table.specs.Refuse.{refused, passed, bad, fine}
 use Rattle.table.specs.Header.{nodesOf, boundOf}
 use Rattle.table.proofs.Accepted.{GoodTable, accepted, passed-on, tested-past}
 use Rattle.arrays.specs.Members.{In}
-use Rattle.tree.specs.Graph.{Ends, RingAt, Forest, Ring}
+use Rattle.tree.specs.Graph.{Ends, RingAt, Ring}
+use Rattle.tree.specs.work.Forest.{Forest}
 use Rattle.tree.specs.Net.{firstEnd, secondEnd}
 use Rattle.tree.specs.Ring.{RingRows}
-use Rattle.tree.specs.Accept.{AcceptanceOutcome, acceptanceRefusal, netAccepted, Rings, Accepts}
+use Rattle.tree.specs.Accept.{acceptanceRefusal, Rings, Accepts}
+use Rattle.tree.specs.work.Why.{whyOf}
+use Rattle.tree.specs.declared.Acceptance.{Acceptance}
+use Rattle.tree.specs.declared.Acceptance.the-variants.{Accepted}
 use Rattle.tree.proofs.Rows.{Closes}
 use Rattle.tree.proofs.Labels.{joined?}
 use Rattle.tree.proofs.RingExactly.{ring-closes, closes-ring}
@@ -81,18 +85,18 @@ pub record Closer (s : List ℕ) (r g : ℕ) : Type 0 where
   pub some : g ≡ 0 → ⊥
 
 module _ (s : List ℕ) where
-  eleven : (x : AcceptanceOutcome) → x .number ≡ 11 → GoodTable s
-      → Rings AcceptanceOutcome acceptanceRefusal s (nodesOf s) (λ x. x ≡ netAccepted (nodesOf s) (boundOf s)) x
-      → Closer s (x .row) (x .ring)
+  eleven : (x : Acceptance) → whyOf x .number ≡ 11 → GoodTable s
+      → Rings Acceptance acceptanceRefusal s (nodesOf s) (λ x. x ≡ Accepted (nodesOf s) (boundOf s)) x
+      → Closer s (whyOf x .row) (whyOf x .ring)
   eleven x e t (bad r k l before is not) =
       record { good = t; below = l; before = rows-open (firstEnd s) (secondEnd s) before; number = is; some = not }
   eleven x e t (fine all (refused c)) = absurd (omega arith)
-  eleven x e t (fine all (passed w p)) = absurd (omega (arith, ap (λ (o : AcceptanceOutcome). o .number) p))
+  eleven x e t (fine all (passed w p)) = absurd (omega (arith, ap (λ (o : Acceptance). whyOf o .number) p))
 
   pub closer : (r g : ℕ) → Accepts s (acceptanceRefusal 11 r g) → Closer s r g
   closer r g p =
       let t = tested-past (λ k r. acceptanceRefusal k r 0) s
-      (λ k q _ l e. omega (arith, l, ap (λ (o : AcceptanceOutcome). o .number) e)) p in
+      (λ k q _ l e. omega (arith, l, ap (λ (o : Acceptance). whyOf o .number) e)) p in
       eleven (acceptanceRefusal 11 r g) refl (t .0) (t .1)
 
   pub refused-ring : (r : ℕ) × (g : ℕ) × Accepts s (acceptanceRefusal 11 r g)

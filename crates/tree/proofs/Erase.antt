@@ -2,7 +2,8 @@
 use Prim.Native.Nat.{ℕ}
 use mathlib.Core.List.{List, [], _∷_}
 use Rattle.arrays.specs.Members.{In, at, past, Distinct}
-use Rattle.tree.specs.Graph.{Walk, stop, go, Joined, Simple}
+use Rattle.tree.specs.Graph.{Walk, stop, go, Joined}
+use Rattle.tree.specs.work.Simple.{Simple}
 use Rattle.arrays.proofs.Members.{in?, not-nil}
 
 module _ (u v : ℕ → ℕ) where

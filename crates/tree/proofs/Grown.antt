@@ -7,7 +7,8 @@ use native.Mathlib.Omega.{arith}
 use native.Mathlib.Numerals.{one-add}
 use native.Mathlib.Decide.{ℕ-discrete}
 use Rattle.arrays.specs.At.{at}
-use Rattle.tree.specs.Graph.{First, Ends, Walk, stop, go, Joined, Forest}
+use Rattle.tree.specs.Graph.{First, Ends, Walk, stop, go, Joined}
+use Rattle.tree.specs.work.Forest.{Forest}
 use Rattle.tree.specs.Count.{Count}
 use Rattle.tree.specs.work.Rooted.{Rooted}
 use Rattle.tree.specs.work.Walked.{Reached, Walked}

@@ -8,7 +8,9 @@ use native.Mathlib.Omega.{arith}
 use native.Mathlib.Decide.{decLt}
 use lib.ListN.{length}
 use Rattle.arrays.specs.Members.{Distinct}
-use Rattle.tree.specs.Graph.{First, Ends, Walk, stop, go, Joined, Simple, Forest}
+use Rattle.tree.specs.Graph.{First, Ends, Walk, stop, go, Joined}
+use Rattle.tree.specs.work.Simple.{Simple}
+use Rattle.tree.specs.work.Forest.{Forest}
 use Rattle.tree.specs.work.Rooted.{Rooted}
 use Rattle.tree.specs.Net.{firstEnd, secondEnd}
 use Rattle.tree.specs.work.Net.{Net}

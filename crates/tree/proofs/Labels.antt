@@ -9,7 +9,8 @@ use native.Mathlib.Nat.{not-suc-le-zero}
 use native.Mathlib.Decide.{ℕ-discrete, map-dec}
 use mathlib.Core.Bool.{Bool, true, false, not, _&&_}
 use lib.Dec.{T, eqb, eqb-refl, T-not}
-use Rattle.tree.specs.Graph.{First, Ends, Walk, stop, go, Joined, Forest}
+use Rattle.tree.specs.Graph.{First, Ends, Walk, stop, go, Joined}
+use Rattle.tree.specs.work.Forest.{Forest}
 use Rattle.tree.proofs.Joined.{joined-refl, joined-step, joined-trans, joined-sym, joined-mono}
 
 -- two tests, both passed

@@ -6,7 +6,8 @@ use mathlib.Core.Logic.{inl, _↔_, ⊎-elim}
 use mathlib.Core.List.{List, _∷_}
 use Rattle.arrays.specs.At.{at}
 use Rattle.arrays.specs.Members.{In, Distinct}
-use Rattle.tree.specs.Graph.{First, Walk, Simple}
+use Rattle.tree.specs.Graph.{First, Walk}
+use Rattle.tree.specs.work.Simple.{Simple}
 use Rattle.tree.specs.Net.{firstEnd, secondEnd}
 use Rattle.tree.specs.work.Net.{Net}
 use Rattle.tree.specs.work.Rooted.{Above, self, Rooted}

@@ -6,7 +6,8 @@ use mathlib.Core.Logic.{inl, inr}
 use mathlib.Core.List.{List, _∷_}
 use native.Mathlib.Decide.{ℕ-discrete}
 use Rattle.arrays.specs.Members.{In, at, past, Distinct}
-use Rattle.tree.specs.Graph.{First, Ends, Walk, stop, go, Joined, Forest}
+use Rattle.tree.specs.Graph.{First, Ends, Walk, stop, go, Joined}
+use Rattle.tree.specs.work.Forest.{Forest}
 use Rattle.tree.proofs.Rows.{But, End, Closes, ends-left, other}
 use Rattle.tree.proofs.Joined.{joined-step, joined-trans, joined-sym}
 use Rattle.tree.proofs.Bridge.{detour}

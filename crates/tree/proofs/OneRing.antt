@@ -8,7 +8,8 @@ use mathlib.Core.List.{List, [], _∷_, _++_}
 use native.Mathlib.Omega.{arith}
 use lib.ListN.{length, length-append}
 use Rattle.arrays.specs.Members.{In, at, past, Distinct}
-use Rattle.tree.specs.Graph.{First, Ends, Walk, stop, go, Forest, Ring}
+use Rattle.tree.specs.Graph.{First, Ends, Walk, stop, go, Ring}
+use Rattle.tree.specs.work.Forest.{Forest}
 use Rattle.tree.specs.Path.{Sum}
 use Rattle.tree.specs.Ring.{RingRows, closed}
 use Rattle.arrays.proofs.Members.{not-nil, in?, distinct-parts, distinct-turn}

@@ -8,7 +8,8 @@ use native.Mathlib.Omega.{arith}
 use native.Mathlib.Nat.{not-suc-le-zero}
 use lib.ListN.{length}
 use Rattle.arrays.specs.Members.{In, at, past, Distinct}
-use Rattle.tree.specs.Graph.{First, Walk, stop, go, Forest, Ring}
+use Rattle.tree.specs.Graph.{First, Walk, stop, go, Ring}
+use Rattle.tree.specs.work.Forest.{Forest}
 use Rattle.arrays.proofs.Members.{not-nil}
 use Rattle.tree.proofs.Rows.{But, Closes, ends-left}
 use Rattle.tree.proofs.Joined.{walk-mono}

@@ -9,7 +9,8 @@ use native.Mathlib.Omega.{arith}
 use lib.ListN.{length}
 use Rattle.table.specs.Refuse.{FirstBad, Only}
 use Rattle.arrays.specs.Members.{In, at, past}
-use Rattle.tree.specs.Graph.{First, Ends, Walk, stop, go, RingAt, Forest, Ring}
+use Rattle.tree.specs.Graph.{First, Ends, Walk, stop, go, RingAt, Ring}
+use Rattle.tree.specs.work.Forest.{Forest}
 use Rattle.tree.specs.Path.{Path}
 use Rattle.tree.specs.Ring.{RingRows, apart, closed}
 use Rattle.arrays.proofs.Members.{not-nil}

@@ -9,10 +9,13 @@ use Rattle.arrays.specs.At.{at}
 use Rattle.table.specs.Header.{nodesOf}
 use Rattle.table.proofs.Accepted.{GoodTable}
 use Rattle.arrays.specs.Members.{In, Distinct}
-use Rattle.tree.specs.Graph.{First, Ends, Walk, Simple, Ring}
+use Rattle.tree.specs.Graph.{First, Ends, Walk, Ring}
+use Rattle.tree.specs.Path.{Path}
 use Rattle.tree.specs.Net.{firstEnd, secondEnd}
 use Rattle.tree.specs.work.Net.{Net}
-use Rattle.tree.specs.Accept.{AcceptanceOutcome, acceptanceRefusal, Begins, Accepts}
+use Rattle.tree.specs.Accept.{acceptanceRefusal, Begins, Accepts}
+use Rattle.tree.specs.work.Why.{whyOf}
+use Rattle.tree.specs.declared.Acceptance.{Acceptance}
 use Rattle.tree.specs.work.Rooted.{Above}
 use Rattle.tree.specs.work.Walked.{Walked}
 use Rattle.tree.proofs.RingExactly.{forest-iff}
@@ -49,10 +52,10 @@ pub ring-repeat : (s : List ℕ) (r g : ℕ) → Accepts s (acceptanceRefusal 11
 ring-repeat = eleven.ring-repeat
 
 -- No other refusal tells of a ring;
-pub ring-alone : (s : List ℕ) (o : AcceptanceOutcome) → Accepts s o → o .number ≢ 11 → o .ring ≡ 0
-ring-alone s o p =
-    by-beginning (λ o. o .number ≢ 11 → o .ring ≡ 0) acceptanceRefusal s (λ k r g t. t .alone)
-    (λ o e _. ap (λ (x : AcceptanceOutcome). x .ring) e) p
+pub ring-alone : (s : List ℕ) (k r g : ℕ) → Accepts s (acceptanceRefusal k r g) → k ≢ 11 → g ≡ 0
+ring-alone s k r g p =
+    by-beginning (λ o. whyOf o .number ≢ 11 → whyOf o .ring ≡ 0) acceptanceRefusal s (λ k r g t. t .alone)
+    (λ o e _. ap (λ (x : Acceptance). whyOf x .ring) e) p
 
 -- and what acceptance refuses, every operation that begins with it refuses by the same number, row and ring.
 pub refused-alike : {A : Type 0} (refuse : ℕ → ℕ → ℕ → A) (s : List ℕ) {rest : A → Type 0} {x : A} (k r g : ℕ)
@@ -65,8 +68,8 @@ ringless {s} t = forest-iff (firstEnd s) (secondEnd s) (t .apart) .0 (t .forest)
 
 -- In an accepted net each two nodes have a simple path,
 pub path-there : {s : List ℕ} {n a b : ℕ} → Net s n → a < n → b < n
-    → Simple (firstEnd s) (secondEnd s) (First (n - 1)) a b
-path-there t = net-simple t
+    → (rs : List ℕ) × Path (firstEnd s) (secondEnd s) (n - 1) a rs b
+path-there t a b = let p = net-simple t a b in (p .0, (p .1, p .2, p .3))
 
 -- and one only: the same rows and the same nodes.
 pub path-one : {s : List ℕ} {n a b : ℕ} {rs ns rs′ ns′ : List ℕ} → Net s n

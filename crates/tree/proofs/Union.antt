@@ -9,7 +9,8 @@ use native.Mathlib.Decide.{ℕ-discrete}
 use lib.ListN.{length, set, length-set}
 use lib.Seq.{getD-set-same, getD-set-other}
 use Rattle.arrays.specs.At.{at}
-use Rattle.tree.specs.Graph.{First, Walk, stop, go, Joined, Forest}
+use Rattle.tree.specs.Graph.{First, Walk, stop, go, Joined}
+use Rattle.tree.specs.work.Forest.{Forest}
 use Rattle.tree.specs.work.Rows.{RowsFit}
 use Rattle.tree.specs.work.Union.{Climb, here, step, Rises, Root, FirstRing, Linked, Numbered, Union}
 use Rattle.tree.proofs.Rows.{But, End}

@@ -5,7 +5,8 @@ use mathlib.Core.Path.{_≡_, refl, sym, ap, _∙_}
 use mathlib.Core.Logic.{_≢_}
 use mathlib.Core.List.{List, [], _∷_, _++_}
 use lib.IntN.{ℤ, pos, _+ℤ_, +ℤ-assoc, +ℤ-idl, +ℤ-idr}
-use Rattle.tree.specs.Graph.{stop, Forest}
+use Rattle.tree.specs.Graph.{stop}
+use Rattle.tree.specs.work.Forest.{Forest}
 use Rattle.tree.specs.Path.{Sum}
 use Rattle.tree.specs.work.Rooted.{Above, Rooted}
 use Rattle.tree.specs.Value.{Total, Value}

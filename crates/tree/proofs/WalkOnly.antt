@@ -8,7 +8,8 @@ use native.Mathlib.Omega.{arith}
 use native.Mathlib.Decide.{ℕ-discrete, decLt}
 use lib.Seq.{ext-getD}
 use Rattle.arrays.specs.At.{at}
-use Rattle.tree.specs.Graph.{First, Ends, Joined, Forest}
+use Rattle.tree.specs.Graph.{First, Ends, Joined}
+use Rattle.tree.specs.work.Forest.{Forest}
 use Rattle.tree.specs.work.Walked.{Reached, High, Walked}
 use Rattle.tree.proofs.Rows.{But, End, Closes, ends-flip, ends-one, other}
 use Rattle.tree.proofs.Joined.{joined-refl, joined-step, joined-trans, joined-sym}

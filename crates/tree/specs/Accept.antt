@@ -22,25 +22,8 @@ Rings A refuse s n rest =
 abbrev pub Begins : (A : Type 0) → (ℕ → ℕ → ℕ → A) → List ℕ → (A → Type 0) → A → Type 0
 Begins A refuse s rest = Tested A (λ k r. refuse k r 0) s (Rings A refuse s (nodesOf s) rest)
 
--- acceptance: number, row, ring, n and B
-pub record AcceptanceOutcome : Type 0 where
-  pub number : ℕ
-  pub row : ℕ
-  pub ring : ℕ
-  pub nodes : ℕ
-  pub bound : ℕ
+abbrev pub acceptanceRefusal : ℕ → ℕ → ℕ → Acceptance
+acceptanceRefusal k r g = Refused (record { number = k; row = r; ring = g })
 
--- a refusal: number, row and ring, zeros elsewhere
-abbrev pub acceptanceRefusal : ℕ → ℕ → ℕ → AcceptanceOutcome
-acceptanceRefusal k r g = record { number = k; row = r; ring = g; nodes = 0; bound = 0 }
-
--- where nothing is refused, number, row and ring are 0
-abbrev pub netAccepted : ℕ → ℕ → AcceptanceOutcome
-netAccepted n b = record { number = 0; row = 0; ring = 0; nodes = n; bound = b }
-
-abbrev pub acceptanceOutcome : Acceptance → AcceptanceOutcome
-acceptanceOutcome (Accepted n b) = netAccepted n b
-acceptanceOutcome (Refused w) = acceptanceRefusal (w .number) (w .row) (w .ring)
-
-abbrev pub Accepts : List ℕ → AcceptanceOutcome → Type 0
-Accepts s = Begins AcceptanceOutcome acceptanceRefusal s (λ x. x ≡ netAccepted (nodesOf s) (boundOf s))
+abbrev pub Accepts : List ℕ → Acceptance → Type 0
+Accepts s = Begins Acceptance acceptanceRefusal s (λ x. x ≡ Accepted (nodesOf s) (boundOf s))

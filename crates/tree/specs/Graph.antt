@@ -1,4 +1,4 @@
--- The rows of a net: row r joins the nodes u r and v r. What a walk, a simple path and a ring are.
+-- The rows of a net: row r joins the nodes u r and v r. What a walk and a ring are.
 use Prim.Native.Nat.{ℕ, _≤_, _<_}
 use mathlib.Core.Path.{_≡_}
 use mathlib.Core.Logic.{_⊎_}
@@ -24,16 +24,9 @@ module _ (u v : ℕ → ℕ) where
   abbrev pub Joined : (ℕ → Type 0) → ℕ → ℕ → Type 0
   Joined P a b = (rs : List ℕ) × (ns : List ℕ) × Walk P a rs ns b
 
-  -- a path that meets no node twice
-  abbrev pub Simple : (ℕ → Type 0) → ℕ → ℕ → Type 0
-  Simple P a b = (rs : List ℕ) × (ns : List ℕ) × Walk P a rs ns b × Distinct (a ∷ ns)
-
-  -- earlier rows already join the ends of row r; and no row of the first k is such a one
+  -- earlier rows already join the ends of row r
   abbrev pub RingAt : ℕ → Type 0
   RingAt r = Joined (First r) (u r) (v r)
-
-  abbrev pub Forest : ℕ → Type 0
-  Forest k = (r : ℕ) → r < k → ¬ RingAt r
 
   -- a closed walk along two or more different rows of the first k that meets no node twice before it closes
   pub record Ring (k : ℕ) : Type 0 where

@@ -10,14 +10,7 @@ ghost use mathlib.Core.Path.{_≡_};
 ghost use Prim.Native.Nat.{_-_};
 ghost use Rattle.tree.specs.Net.{firstEnd, secondEnd};
 ghost use Rattle.tree.specs.work.Net.{Net};
-ghost use Rattle.tree.specs.Accept.{
-  AcceptanceOutcome,
-  acceptanceRefusal,
-  netAccepted,
-  acceptanceOutcome,
-  Rings,
-  Accepts,
-};
+ghost use Rattle.tree.specs.Accept.{acceptanceRefusal, Rings, Accepts};
 ghost use Rattle.tree.specs.work.Walked.{Walked};
 ghost use Rattle.tree.specs.work.Rows.{Fitting};
 use table::Opening;
@@ -38,7 +31,7 @@ pub enum Acceptance {
 
 // Tests 1 to 12, in order.
 pub fn accept(s: &[u8]) -> Acceptance
-    ensures { λ r. ⌜ Accepts (now (s .entry)) (acceptanceOutcome r) ⌝ }
+    ensures { λ r. ⌜ Accepts (now (s .entry)) r ⌝ }
 {
     let o = table::examine(s);
     match o {
@@ -54,8 +47,8 @@ pub fn accept(s: &[u8]) -> Acceptance
 // Tests 11 and 12, of a table that has passed the others.
 fn rings(s: &[u8], nodes: u16, bound: u32) -> Acceptance
     requires { ⌜ Fitting (now s) nodes ⌝ }
-    ensures { λ r. ⌜ Rings AcceptanceOutcome acceptanceRefusal (now (s .entry)) nodes (λ x. x ≡ netAccepted nodes bound)
-        (acceptanceOutcome r) ⌝ }
+    ensures { λ r. ⌜ Rings Acceptance acceptanceRefusal (now (s .entry)) nodes (λ x. x ≡ Acceptance.Accepted nodes bound)
+        r ⌝ }
 {
     let n = arrays::wide(nodes);
     let rows = n - 1;

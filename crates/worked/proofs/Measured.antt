@@ -5,6 +5,7 @@ use mathlib.Core.Path.{_≡_, refl, sym}
 use mathlib.Core.Bool.{Bool, not, cond}
 use mathlib.Core.List.{List, [], _∷_}
 use lib.Dec.{T, eqb, ltb, eqb-refl, eqb→eq, ltb→lt, T-not}
+use lib.IntN.{ℤ}
 use lib.ListN.{length}
 use Rattle.table.specs.Refuse.{passed}
 use Rattle.table.specs.Header.{nodesOf}
@@ -19,7 +20,8 @@ use Rattle.spines.specs.Spine.{ChildOf}
 use Rattle.spines.specs.Heads.{HeadOf}
 use Rattle.spines.specs.Hops.{Touched}
 use Rattle.spines.proofs.Net.{net-head-only}
-use Rattle.pair.specs.Pair.{PairOutcome, pairRefusal, PairOf}
+use Rattle.pair.specs.Pair.{pairRefusal, PairOf}
+use Rattle.pair.specs.declared.PairAnswer.the-variants.{Found}
 use Rattle.worked.proofs.Tests.{
   every,
   every-passed,
@@ -94,7 +96,7 @@ module _ (up by : ℕ → ℕ) (s : List ℕ) where
               → HeadOf s (nodesOf s) h (i .0)
           rename e k = rw (← e) k
 
-module _ (way : ℕ → ℕ → List ℕ) (up by : ℕ → ℕ) (s marks : List ℕ) (a b : ℕ) (o : PairOutcome) where
+module _ (way : ℕ → ℕ → List ℕ) (up by : ℕ → ℕ) (s marks : List ℕ) (a b l h : ℕ) (w : ℤ) where
   abbrev rs : List ℕ
   rs = way a b
 
@@ -104,21 +106,21 @@ module _ (way : ℕ → ℕ → List ℕ) (up by : ℕ → ℕ) (s marks : List 
   abbrev tests : List Bool
   tests =
       accepted? s ∷ hangs? up by s ∷ eqb (length marks) (nodesOf s - 1) ∷ ltb a (nodesOf s) ∷ ltb b (nodesOf s)
-      ∷ not (eqb a b) ∷ path? s a rs b ∷ eqb (o .number) 0 ∷ eqb (o .row) 0 ∷ eqb (Sum (lengthOf s) rs) (o .length)
-      ∷ eqZ (Total (weightUnder s marks) rs) (o .weight) ∷ every (touch-tests up by s on)
-      ∷ eqb (length (once (heads-of up by s on))) (o .hops) ∷ eqb (o .ring) 0 ∷ []
+      ∷ not (eqb a b) ∷ path? s a rs b ∷ eqb (Sum (lengthOf s) rs) l
+      ∷ eqZ (Total (weightUnder s marks) rs) w ∷ every (touch-tests up by s on)
+      ∷ eqb (length (once (heads-of up by s on))) h ∷ []
 
   unfoldable pub pair? : Bool
   pair? = every tests
 
-  pub is-pair : T pair? → PairOf s marks a b o
+  pub is-pair : T pair? → PairOf s marks a b (Found l w h)
   unfolding pair?
   is-pair t =
       let p = every-passed tests t in
       let q = p .1 .1 in
-      let w = q .1 .1 .1 .1 .0 in
+      let way = q .1 .1 .1 .1 .0 in
       let r = q .1 .1 .1 .1 .1 in
-      let k = is-walk s a rs b w in
+      let k = is-walk s a rs b way in
       begins s (p .0) pairRefusal
       (passed (eqb→eq _ _ (q .0))
       (passed
@@ -126,25 +128,21 @@ module _ (way : ℕ → ℕ → List ℕ) (up by : ℕ → ℕ) (s marks : List 
         first = ltb→lt _ _ (q .1 .0);
         second = ltb→lt _ _ (q .1 .1 .0);
         apart = λ e. T-not (eqb a b) (q .1 .1 .1 .0) (rw e (eqb-refl b));
-      })
-      (record {
-        number = eqb→eq _ _ (r .0);
-        row = eqb→eq _ _ (r .1 .0);
-        ring = eqb→eq _ _ (r .1 .1 .1 .1 .1 .1 .0);
-        path = record {
+      }) (
+        record {
           rows = rs;
-          path = is-path s a rs b w;
-          length = eqb→eq _ _ (r .1 .1 .0);
-          weight = eqZ-is _ _ (r .1 .1 .1 .0);
-        };
-        hops = record {
+          path = is-path s a rs b way;
+          length = eqb→eq _ _ (r .0);
+          weight = eqZ-is _ _ (r .1 .0);
+        },
+        record {
           rows = rs;
           nodes = met s a rs;
           walk = k .0;
           once = k .1;
-          touches = counted (eqb→eq _ _ (r .1 .1 .1 .1 .1 .0)) (touched up by s (p .0) (p .1 .0) on (r .1 .1 .1 .1 .0));
-        };
-      })))
+          touches = counted (eqb→eq _ _ (r .1 .1 .1 .0)) (touched up by s (p .0) (p .1 .0) on (r .1 .1 .0));
+        },
+      )))
     where
       counted : {h g : ℕ} → h ≡ g
           → Count (Touched (ChildOf (firstEnd s) (secondEnd s) (nodesOf s - 1) (nodesOf s)) (nodesOf s) on) h

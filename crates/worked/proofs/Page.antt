@@ -17,10 +17,10 @@ use Rattle.pages.specs.Page.{Following}
 use Rattle.pages.proofs.Qualifying.{passes-map}
 use Rattle.pages.specs.Bytes.{rows}
 use Rattle.ground.specs.PathOf.{PathOf}
-use Rattle.listing.specs.Listing.{ListingOutcome, listingRefusal, ListingOf}
+use Rattle.listing.specs.Listing.{listingRefusal, ListingOf}
+use Rattle.listing.specs.declared.Listed.the-variants.{Rows}
 use Rattle.worked.proofs.Tests.{
   either,
-  is-false,
   every,
   every-passed,
   throughout,
@@ -36,7 +36,8 @@ abbrev keep : Bool → Entry → List Entry
 keep true e = e ∷ []
 keep false e = []
 
-module _ (way : ℕ → ℕ → List ℕ) (s marks : List ℕ) (floor : ℤ) (low high : ℕ) (lent : List ℕ) (o : ListingOutcome) where
+module _ (way : ℕ → ℕ → List ℕ) (s marks : List ℕ) (floor : ℤ) (low high : ℕ) (lent : List ℕ)
+    (written left : ℕ) (bytes : List ℕ) where
   abbrev short : ℕ → Bool
   short l = leb l (boundOf s)
 
@@ -66,9 +67,8 @@ module _ (way : ℕ → ℕ → List ℕ) (s marks : List ℕ) (floor : ℤ) (lo
   tests =
       accepted? s ∷ eqb (length marks) (nodesOf s - 1) ∷ ways? s marks way ∷ leb 16 (length lent) ∷ rising? gathered
       ∷ throughout (wanted? s marks way short (leZ floor)) gathered ∷ throughout (after? low high) gathered
-      ∷ all-pairs s marks way short (leZ floor) listed ∷ not (o .refused) ∷ eqb (o .number) 0 ∷ eqb (o .row) 0
-      ∷ eqb (o .written) (length given) ∷ eqb (length given + o .left) (length gathered)
-      ∷ same (o .bytes) (rows given ++ drop (16 * o .written) lent) ∷ eqb (o .ring) 0 ∷ []
+      ∷ all-pairs s marks way short (leZ floor) listed ∷ eqb written (length given)
+      ∷ eqb (length given + left) (length gathered) ∷ same bytes (rows given ++ drop (16 * written) lent) ∷ []
 
   unfoldable pub listing? : Bool
   listing? = every tests
@@ -82,32 +82,25 @@ module _ (way : ℕ → ℕ → List ℕ) (s marks : List ℕ) (floor : ℤ) (lo
   fro : (e : Entry) → Wants e → Wanted s marks way short (leZ floor) e
   fro e = passes-map (λ q. q) (λ l. le→leb _ _ l) (λ w. w .le)
 
-  pub is-listing : T listing? → ListingOf s marks floor low high lent o
+  pub is-listing : T listing? → ListingOf s marks floor low high lent (Rows written left, bytes)
   unfolding listing?
   is-listing t =
       let p = every-passed tests t in
       let q = p .1 .1 .1 .1 in
-      let refused = q .1 .1 .1 .1 .0 in
-      let r = q .1 .1 .1 .1 .1 in
+      let r = q .1 .1 .1 .1 in
       begins s (p .0) (listingRefusal lent)
       (passed (eqb→eq _ _ (p .1 .0))
       (passed (leb→le _ _ (p .1 .1 .1 .0))
       (record {
-        taken = is-false (o .refused) refused;
-        number = eqb→eq _ _ (r .0);
-        row = eqb→eq _ _ (r .1 .0);
-        ring = eqb→eq _ _ (r .1 .1 .1 .1 .1 .0);
+        some = given;
         page = record {
-          some = given;
-          page = record {
-            rows = gathered;
-            all = all (p .0) (p .1 .1 .0) (q .0) (q .1 .0) (q .1 .1 .0) (q .1 .1 .1 .0);
-            fit = refl;
-            rest = eqb→eq _ _ (r .1 .1 .1 .0);
-          };
-          count = eqb→eq _ _ (r .1 .1 .0);
-          bytes = same-is _ _ (r .1 .1 .1 .1 .0);
+          rows = gathered;
+          all = all (p .0) (p .1 .1 .0) (q .0) (q .1 .0) (q .1 .1 .0) (q .1 .1 .1 .0);
+          fit = refl;
+          rest = eqb→eq _ _ (r .1 .0);
         };
+        count = eqb→eq _ _ (r .0);
+        bytes = same-is _ _ (r .1 .1 .0);
       })))
     where
       found : (e : Entry) → After low high e → T (listed e) → T (has-entry gathered e)

@@ -11,7 +11,9 @@ use Rattle.table.specs.Header.{nodesOf}
 use Rattle.tree.specs.Graph.{First, Walk, stop, go}
 use Rattle.tree.specs.Net.{firstEnd, secondEnd}
 use Rattle.tree.specs.Ring.{closed}
-use Rattle.tree.specs.Accept.{AcceptanceOutcome, acceptanceRefusal, Accepts}
+use Rattle.tree.specs.Accept.{acceptanceRefusal, Accepts}
+use Rattle.tree.specs.declared.Refusal.{Refusal}
+use Rattle.tree.specs.declared.Acceptance.the-variants.{Refused}
 use Rattle.tree.proofs.Eleven.{first-refused}
 use Rattle.tree.proofs.Labels.{both, grows, grows-forest}
 use Rattle.worked.proofs.Tests.{every, every-passed, throughout}
@@ -27,9 +29,9 @@ earlier r t (go {r = q} {rs = rs} h e w) =
     let x = both (ltb q r) (throughout (λ q. ltb q r) rs) t in
     go (ltb→lt q r (x .0)) e (earlier r (x .1) w)
 
-module _ (way : ℕ → ℕ → List ℕ) (s : List ℕ) (o : AcceptanceOutcome) where
+module _ (way : ℕ → ℕ → List ℕ) (s : List ℕ) (why : Refusal) where
   abbrev r : ℕ
-  r = o .row
+  r = why .row
 
   abbrev rs : List ℕ
   rs = way (firstEnd s r) (secondEnd s r)
@@ -38,25 +40,24 @@ module _ (way : ℕ → ℕ → List ℕ) (s : List ℕ) (o : AcceptanceOutcome)
   tests =
       good? s ∷ ltb r (nodesOf s - 1) ∷ grows (firstEnd s) (secondEnd s) r
       ∷ path? s (firstEnd s r) rs (secondEnd s r) ∷ throughout (λ q. ltb q r) rs
-      ∷ eqb (o .number) 11 ∷ eqb (o .ring) (1 + length rs) ∷ eqb (o .nodes) 0 ∷ eqb (o .bound) 0 ∷ []
+      ∷ eqb (why .number) 11 ∷ eqb (why .ring) (1 + length rs) ∷ []
 
   unfoldable pub ringed? : Bool
   ringed? = every tests
 
-  pub is-ringed : T ringed? → Accepts s o
+  pub is-ringed : T ringed? → Accepts s (Refused why)
   unfolding ringed?
   is-ringed t =
       let p = every-passed tests t in
       let q = p .1 .1 .1 .1 in
-      let k : o .number ≡ 11 = eqb→eq _ _ (q .1 .0) in
-      let g : o .ring ≡ 1 + length rs = eqb→eq _ _ (q .1 .1 .0) in
-      let n : o .nodes ≡ 0 = eqb→eq _ _ (q .1 .1 .1 .0) in
-      let b : o .bound ≡ 0 = eqb→eq _ _ (q .1 .1 .1 .1 .0) in
+      let k : why .number ≡ 11 = eqb→eq _ _ (q .1 .0) in
+      let g : why .ring ≡ 1 + length rs = eqb→eq _ _ (q .1 .1 .0) in
       let w = is-walk s (firstEnd s r) rs (secondEnd s r) (p .1 .1 .1 .0) in
-      turn (λ i. record { number = k i; row = r; ring = o .ring; nodes = n i; bound = b i })
-      (first-refused s (good s (p .0)) r (o .ring) (ltb→lt _ _ (p .1 .0))
+      turn (λ i. acceptanceRefusal (k i) r (why .ring))
+      (first-refused s (good s (p .0)) r (why .ring) (ltb→lt _ _ (p .1 .0))
       (grows-forest (firstEnd s) (secondEnd s) r (p .1 .1 .0))
       (closed rs (met s (firstEnd s r) rs, earlier r (q .0) (w .0), w .1) g) (λ e. omega (arith, e, g)))
     where
-      turn : o ≡ acceptanceRefusal 11 r (o .ring) → Accepts s (acceptanceRefusal 11 r (o .ring)) → Accepts s o
+      turn : Refused why ≡ acceptanceRefusal 11 r (why .ring) → Accepts s (acceptanceRefusal 11 r (why .ring))
+          → Accepts s (Refused why)
       turn e h = rw e h

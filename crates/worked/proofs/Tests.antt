@@ -23,14 +23,6 @@ pub either : (a b : Bool) → T (a || b) → T a ⊎ T b
 either true b t = inl tt
 either false b t = inr t
 
-pub is-true : (b : Bool) → T b → b ≡ true
-is-true true t = refl
-is-true false t = absurd t
-
-pub is-false : (b : Bool) → T (not b) → b ≡ false
-is-false true t = absurd t
-is-false false t = refl
-
 pub left-or : (a b : Bool) → T a → T (a || b)
 left-or true b t = tt
 left-or false b t = absurd t

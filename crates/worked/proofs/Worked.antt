@@ -1,7 +1,7 @@
 -- The claim: all starred cases of document 01, and those of Req 01 and Req 03, hold of the definitions. Each operation
 -- has a test that computes and a law that what passes it holds; the list is then a computation.
 use Prim.Native.Nat.{ℕ}
-use mathlib.Core.Bool.{Bool, true, _&&_}
+use mathlib.Core.Bool.{Bool, true, false, _&&_}
 use mathlib.Core.List.{List, [], _∷_}
 use native.Mathlib.Decide.{ℕ-discrete, decLe, decLt}
 use lib.Dec.{T}
@@ -15,6 +15,13 @@ use Rattle.spines.proofs.Main.{best, main-some, main?}
 use Rattle.spines.proofs.Head.{head-some}
 use Rattle.marks.specs.Weighs.{weighs, weightUnder}
 use Rattle.pages.specs.Bytes.{bytes, row, rows}
+use Rattle.pages.specs.Listing.{entry}
+use Rattle.tree.specs.declared.Acceptance.the-variants as acceptance
+use Rattle.spines.specs.declared.HeadsAnswer.the-variants as written
+use Rattle.marks.specs.declared.Change.the-variants as change
+use Rattle.heaviest.specs.declared.HeaviestAnswer.the-variants as run
+use Rattle.listing.specs.declared.Listed.the-variants as listed
+use Rattle.pair.specs.declared.PairAnswer.the-variants as path
 use Rattle.worked.specs.Case.{Case, accept, heaviest, listing, heads, leaves, pair, claim, Holds, All}
 use Rattle.worked.specs.Cases.{net5, n5, unmarked, held, marked, crossed, lent, three, cases}
 use Rattle.worked.proofs.Tests.{every, below, has, throughout, no-repeat, same}
@@ -24,11 +31,11 @@ use Rattle.worked.proofs.Ringed.{ringed?, is-ringed}
 use Rattle.worked.proofs.Pairs.{ways?, wanted?, all-pairs}
 use Rattle.worked.proofs.Entries.{after?, at-least?, same-entry, has-entry, rising?}
 use Rattle.worked.proofs.Page.{listing?, is-listing, seconds, firsts}
-use Rattle.worked.proofs.Claimed.{claim?, is-claim, frees}
+use Rattle.worked.proofs.Claimed.{frees, claimed?, is-claimed, refused?, is-refused}
 use Rattle.worked.proofs.Hung.{par, hangs?, headAt}
 use Rattle.worked.proofs.Headed.{heads?, is-heads, leaves?, are-leaves}
 use Rattle.worked.proofs.Measured.{once, heads-of, pair?, is-pair}
-use Rattle.worked.proofs.Best.{heaviest?, is-heaviest}
+use Rattle.worked.proofs.Best.{found?, is-found, none?, is-none}
 
 -- the rows of each path of N5 from a to b, the lower node first
 unfoldable ways : List (List (List ℕ))
@@ -51,23 +58,36 @@ by x = getD (0 ∷ 0 ∷ 1 ∷ 2 ∷ 3 ∷ []) x 0
 
 -- the test of a case, by its operation
 unfoldable check : Case → Bool
-check (accept s o) = ringed? way s o
-check (heaviest s marks o) = heaviest? way s marks o
-check (listing s marks floor low high lent o) = listing? way s marks floor low high lent o
-check (heads s lent o) = heads? up by s lent o
+check (accept s (acceptance.Accepted n b)) = false
+check (accept s (acceptance.Refused why)) = ringed? way s why
+check (heaviest s marks (run.Between a b l w)) = found? way s marks (entry a b l w)
+check (heaviest s marks (run.Refused why)) = none? way s marks why
+check (listing s marks floor low high lent (listed.Rows k l, after)) = listing? way s marks floor low high lent k l after
+check (listing s marks floor low high lent (listed.Refused why, after)) = false
+check (heads s lent (written.Written, after)) = heads? up by s lent after
+check (heads s lent (written.Refused why, after)) = false
 check (leaves s nodes) = leaves? up by s nodes
-check (pair s marks a b o) = pair? way up by s marks a b o
-check (claim s marks run a b o) = claim? way s marks run a b o
+check (pair s marks a b (path.Found l w h)) = pair? way up by s marks a b l h w
+check (pair s marks a b (path.Refused why)) = false
+check (claim s marks run a b (change.Changed k, after)) = claimed? way s marks run a b k after
+check (claim s marks run a b (change.Refused why, after)) = refused? way s marks run a b why after
 
 check-holds : (c : Case) → T (check c) → Holds c
 unfolding check
-check-holds (accept s o) t = is-ringed way s o t
-check-holds (heaviest s marks o) t = is-heaviest way s marks o t
-check-holds (listing s marks floor low high lent o) t = is-listing way s marks floor low high lent o t
-check-holds (heads s lent o) t = is-heads up by s lent o t
+check-holds (accept s (acceptance.Accepted n b)) t = absurd t
+check-holds (accept s (acceptance.Refused why)) t = is-ringed way s why t
+check-holds (heaviest s marks (run.Between a b l w)) t = is-found way s marks (entry a b l w) t
+check-holds (heaviest s marks (run.Refused why)) t = is-none way s marks why t
+check-holds (listing s marks floor low high lent (listed.Rows k l, after)) t =
+    is-listing way s marks floor low high lent k l after t
+check-holds (listing s marks floor low high lent (listed.Refused why, after)) t = absurd t
+check-holds (heads s lent (written.Written, after)) t = is-heads up by s lent after t
+check-holds (heads s lent (written.Refused why, after)) t = absurd t
 check-holds (leaves s nodes) t = are-leaves up by s nodes t
-check-holds (pair s marks a b o) t = is-pair way up by s marks a b o t
-check-holds (claim s marks run a b o) t = is-claim way s marks run a b o t
+check-holds (pair s marks a b (path.Found l w h)) t = is-pair way up by s marks a b l h w t
+check-holds (pair s marks a b (path.Refused why)) t = absurd t
+check-holds (claim s marks run a b (change.Changed k, after)) t = is-claimed way s marks run a b k after t
+check-holds (claim s marks run a b (change.Refused why, after)) t = is-refused way s marks run a b why after t
 
 unfoldable check-all : List Case → Bool
 check-all [] = true
@@ -82,7 +102,7 @@ all-hold (c ∷ l) t = let a = both (check c) (check-all l) t in (check-holds c 
 pub cases-hold : All cases
 unfolding head-some main? main-some best many count-dec leaves-some leaf-under? leaf? child? above? some? decLt decLe up
     by heads? leaves? pair? hangs? par headAt once heads-of check-all check cases net5 n5 unmarked held marked crossed
-    lent three way ways heaviest? claim? frees throughout listing? seconds firsts bytes row rows rising? has-entry
+    lent three way ways found? none? claimed? refused? frees throughout listing? seconds firsts bytes row rows rising? has-entry
     same-entry same good? accepted? ringed? ways? path? leads met other wanted? all-pairs at-least? after? every below
     has no-repeat label relabel grows ℕ-discrete firstEnd secondEnd lengthOf weightOf weightUnder weighs Total
 cases-hold = all-hold cases tt

@@ -1,19 +1,24 @@
--- A worked case: an operation's inputs, lent memory among them, and the outcome that the documents give for them. It
--- holds where that outcome is as the operation's own promise says.
+-- A worked case: an operation's inputs, lent memory among them, and the answer that the documents give for them, with
+-- the lent memory afterwards. It holds where these are as the operation's own promise says.
 use Prim.Native.Nat.{ℕ, _-_}
 use mathlib.Core.List.{List, [], _∷_}
 use lib.IntN.{ℤ}
 use Rattle.table.specs.Header.{nodesOf}
 use Rattle.arrays.specs.Members.{In}
 use Rattle.tree.specs.Net.{firstEnd, secondEnd}
-use Rattle.tree.specs.Accept.{AcceptanceOutcome, Accepts}
+use Rattle.tree.specs.Accept.{Accepts}
+use Rattle.tree.specs.declared.Acceptance.{Acceptance}
 use Rattle.spines.specs.Spine.{ChildOf, Leaf}
-use Rattle.spines.specs.Heads.{HeadsOutcome, Headings}
-use Rattle.marks.specs.Change.{ChangeOutcome}
+use Rattle.spines.specs.Heads.{Headings}
+use Rattle.spines.specs.declared.HeadsAnswer.{HeadsAnswer}
+use Rattle.marks.specs.declared.Change.{Change}
 use Rattle.marks.specs.Claim.{Claims}
-use Rattle.heaviest.specs.Heaviest.{HeaviestOutcome, HeaviestOf}
-use Rattle.pair.specs.Pair.{PairOutcome, PairOf}
-use Rattle.listing.specs.Listing.{ListingOutcome, ListingOf}
+use Rattle.heaviest.specs.Heaviest.{HeaviestOf}
+use Rattle.heaviest.specs.declared.HeaviestAnswer.{HeaviestAnswer}
+use Rattle.pair.specs.Pair.{PairOf}
+use Rattle.pair.specs.declared.PairAnswer.{PairAnswer}
+use Rattle.listing.specs.Listing.{ListingOf}
+use Rattle.listing.specs.declared.Listed.{Listed}
 
 -- the table's net has these leaves and no others
 pub record LeavesAre (s nodes : List ℕ) : Type 0 where
@@ -21,13 +26,13 @@ pub record LeavesAre (s nodes : List ℕ) : Type 0 where
   pub all : (x : ℕ) → Leaf (ChildOf (firstEnd s) (secondEnd s) (nodesOf s - 1) (nodesOf s)) (nodesOf s) x → In x nodes
 
 pub data Case : Type 0 where
-  accept : (s : List ℕ) → AcceptanceOutcome → Case
-  heaviest : (s marks : List ℕ) → HeaviestOutcome → Case
-  listing : (s marks : List ℕ) (floor : ℤ) (low high : ℕ) (lent : List ℕ) → ListingOutcome → Case
-  heads : (s lent : List ℕ) → HeadsOutcome → Case
+  accept : (s : List ℕ) → Acceptance → Case
+  heaviest : (s marks : List ℕ) → HeaviestAnswer → Case
+  listing : (s marks : List ℕ) (floor : ℤ) (low high : ℕ) (lent : List ℕ) → Listed × List ℕ → Case
+  heads : (s lent : List ℕ) → HeadsAnswer × List ℕ → Case
   leaves : (s nodes : List ℕ) → Case
-  pair : (s marks : List ℕ) (a b : ℕ) → PairOutcome → Case
-  claim : (s marks : List ℕ) (run a b : ℕ) → ChangeOutcome → Case
+  pair : (s marks : List ℕ) (a b : ℕ) → PairAnswer → Case
+  claim : (s marks : List ℕ) (run a b : ℕ) → Change × List ℕ → Case
 
 abbrev pub Holds : Case → Type 0
 Holds (accept s o) = Accepts s o

@@ -1,14 +1,16 @@
 -- The starred cases of document 01 and those that document 02, Req 01 and Req 03, gives: the small net N5 under several
 -- bounds, and with a row repeated; what is asked of it, and the answers.
 use Prim.Native.Nat.{ℕ}
-use mathlib.Core.Bool.{false}
 use mathlib.Core.List.{List, [], _∷_, _++_}
 use lib.IntN.{pos, negsuc}
-use Rattle.pages.specs.Listing.{entry}
 use Rattle.tree.specs.Accept.{acceptanceRefusal}
-use Rattle.spines.specs.Heads.{headsWritten}
-use Rattle.marks.specs.Change.{changed, changeRefusal}
-use Rattle.heaviest.specs.Heaviest.{heaviestFound, heaviestRefusal}
+use Rattle.spines.specs.declared.HeadsAnswer.the-variants.{Written}
+use Rattle.marks.specs.Change.{changeRefusal}
+use Rattle.marks.specs.declared.Change.the-variants.{Changed}
+use Rattle.heaviest.specs.Heaviest.{heaviestRefusal}
+use Rattle.heaviest.specs.declared.HeaviestAnswer.the-variants.{Between}
+use Rattle.listing.specs.declared.Listed.the-variants.{Rows}
+use Rattle.pair.specs.declared.PairAnswer.the-variants.{Found}
 use Rattle.worked.specs.Case.{Case, accept, heaviest, listing, heads, leaves, pair, claim}
 
 -- a table: R T N, version 1, 5 nodes, reserved, bound B (below 256); then the rows
@@ -53,23 +55,22 @@ three =
 
 unfoldable pub cases : List Case
 cases =
-    heaviest (n5 9) unmarked (heaviestFound (entry 2 3 9 (pos 9)))
-    ∷ heaviest (n5 8) unmarked (heaviestFound (entry 1 3 6 (pos 7)))
-    ∷ heaviest (n5 10) unmarked (heaviestFound (entry 0 3 10 (pos 12)))
-    ∷ heaviest (n5 2) unmarked (heaviestFound (entry 3 4 2 (negsuc 2)))
+    heaviest (n5 9) unmarked (Between 2 3 9 (pos 9))
+    ∷ heaviest (n5 8) unmarked (Between 1 3 6 (pos 7))
+    ∷ heaviest (n5 10) unmarked (Between 0 3 10 (pos 12))
+    ∷ heaviest (n5 2) unmarked (Between 3 4 2 (negsuc 2))
     ∷ heaviest (n5 1) unmarked (heaviestRefusal 16 0 0)
     ∷ listing (n5 9) unmarked (pos 7) 0 0 (lent ++ lent ++ lent ++ lent)
-    (record { refused = false; number = 0; row = 0; ring = 0; written = 3; left = 0; bytes = three ++ lent })
-    ∷ listing (n5 9) unmarked (pos 10) 0 0 lent
-    (record { refused = false; number = 0; row = 0; ring = 0; written = 0; left = 0; bytes = lent })
-    ∷ heads (n5 9) (9 ∷ 9 ∷ 9 ∷ 9 ∷ 9 ∷ []) (headsWritten (0 ∷ 0 ∷ 0 ∷ 3 ∷ 3 ∷ []))
+    (Rows 3 0, three ++ lent)
+    ∷ listing (n5 9) unmarked (pos 10) 0 0 lent (Rows 0 0, lent)
+    ∷ heads (n5 9) (9 ∷ 9 ∷ 9 ∷ 9 ∷ 9 ∷ []) (Written, 0 ∷ 0 ∷ 0 ∷ 3 ∷ 3 ∷ [])
     ∷ leaves (n5 9) (2 ∷ 4 ∷ [])
-    ∷ pair (n5 9) unmarked 2 4 (record { number = 0; row = 0; ring = 0; length = 11; weight = pos 6; hops = 2 })
-    ∷ claim (n5 9) unmarked 7 2 3 (changed held 2)
-    ∷ heaviest (n5 9) held (heaviestFound (entry 0 1 4 (pos 5)))
+    ∷ pair (n5 9) unmarked 2 4 (Found 11 (pos 6) 2)
+    ∷ claim (n5 9) unmarked 7 2 3 (Changed 2, held)
+    ∷ heaviest (n5 9) held (Between 0 1 4 (pos 5))
     ∷ claim (n5 9) held 8 1 3 (changeRefusal held 19 0 0)
     ∷ claim (n5 9) unmarked 7 0 3 (changeRefusal unmarked 18 0 0)
     ∷ claim (n5 9) marked 7 0 3 (changeRefusal marked 18 0 0)
-    ∷ heaviest (n5 2) crossed (heaviestFound (entry 3 4 2 (negsuc 2)))
+    ∷ heaviest (n5 2) crossed (Between 3 4 2 (negsuc 2))
     ∷ accept (net5 0 1 8) (acceptanceRefusal 11 1 2)
     ∷ []

@@ -9,7 +9,7 @@ abort-requires : tie.Need-abort-requires
 abort-requires c κs = search needs
 
 show-change-requires : tie.Need-show-change-requires
-show-change-requires c κs = (_, settle-low _ _ _ _ _ (c .before .before .before .abort .ensures))
+show-change-requires c κs = settle-low _ _ _ _ _ (c .before .before .before .abort .ensures)
 
 same-length : tie.Need-same-length
 same-length c = search needs

@@ -9,7 +9,7 @@ claim-requires : tie.Need-claim-requires
 claim-requires c κs = search needs
 
 show-change-requires : tie.Need-show-change-requires
-show-change-requires c κs = (_, claim-low _ _ _ _ _ _ (c .before .before .before .claim .ensures))
+show-change-requires c κs = claim-low _ _ _ _ _ _ (c .before .before .before .claim .ensures)
 
 same-length : tie.Need-same-length
 same-length c = search needs

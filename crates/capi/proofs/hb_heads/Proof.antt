@@ -9,7 +9,7 @@ heads-requires : tie.Need-heads-requires
 heads-requires c κs = search needs
 
 show-heads-requires : tie.Need-show-heads-requires
-show-heads-requires c κs = (_, heads-low _ _ _ (c .before .before .before .heads .ensures))
+show-heads-requires c κs = heads-low _ _ _ (c .before .before .before .heads .ensures)
 
 same-length : tie.Need-same-length
 same-length c = search needs

@@ -1,6 +1,6 @@
 -- `hb_listing` shows what the operation listing gives.
 use borrow.Author.Needs.{needs}
-use Rattle.capi.proofs.Rows.{listing-storable}
+use Rattle.capi.proofs.Rows.{listing-low}
 use Rattle.capi.proofs.Shown.{shows-page}
 use Rattle.capi.proofs.hb_listing.Statement.{statement}
 use Rattle.capi.proofs.hb_listing.Tie as tie
@@ -9,7 +9,7 @@ listing-requires : tie.Need-listing-requires
 listing-requires c κs = search needs
 
 show-page-requires : tie.Need-show-page-requires
-show-page-requires c κs = (_, listing-storable _ _ _ _ _ _ _ _ (c .before .before .before .listing .ensures))
+show-page-requires c κs = listing-low _ _ _ _ _ _ _ _ (c .before .before .before .listing .ensures)
 
 same-length : tie.Need-same-length
 same-length c = search needs

@@ -1,6 +1,6 @@
 -- `hb_listing_exact` shows what the operation listing exact gives.
 use borrow.Author.Needs.{needs}
-use Rattle.capi.proofs.Rows.{listing-storable}
+use Rattle.capi.proofs.Rows.{listing-low}
 use Rattle.capi.proofs.Shown.{shows-page}
 use Rattle.capi.proofs.hb_listing_exact.Statement.{statement}
 use Rattle.capi.proofs.hb_listing_exact.Tie as tie
@@ -9,7 +9,7 @@ listing-exact-requires : tie.Need-listing-exact-requires
 listing-exact-requires c κs = search needs
 
 show-page-requires : tie.Need-show-page-requires
-show-page-requires c κs = (_, listing-storable _ _ _ _ _ _ _ _ (c .before .before .before .listing-exact .ensures))
+show-page-requires c κs = listing-low _ _ _ _ _ _ _ _ (c .before .before .before .listing-exact .ensures)
 
 same-length : tie.Need-same-length
 same-length c = search needs

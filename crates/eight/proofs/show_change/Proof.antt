@@ -10,7 +10,7 @@ enum-known-o : tie.Need-enum-known-o
 enum-known-o c = search needs
 
 refuse-requires : tie.Need-refuse-requires
-refuse-requires c κs = rw (c .before .before .o .given .1) at (c .before .before .before .before .pre .1)
+refuse-requires c κs = rw (c .before .before .o .given .1) at (c .before .before .before .before .pre)
 
 enum-known-o-2 : tie.Need-enum-known-o-2
 enum-known-o-2 c = search needs

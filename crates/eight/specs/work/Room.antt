@@ -1,14 +1,45 @@
 -- What an answer has room for: the three numbers of a refusal, and a listing's counts, as signed numbers of 64 bits.
 use Prim.Native.Nat.{ℕ, _+_, _≤_, _<_}
-use mathlib.Core.Path.{_≡_}
-use Rattle.listing.specs.Listing.{ListingOutcome}
+use Rattle.tree.specs.declared.Acceptance.{Acceptance}
+use Rattle.tree.specs.declared.Acceptance.the-variants as acceptance
+use Rattle.spines.specs.declared.HeadsAnswer.{HeadsAnswer}
+use Rattle.spines.specs.declared.HeadsAnswer.the-variants as heads
+use Rattle.marks.specs.declared.Change.{Change}
+use Rattle.marks.specs.declared.Change.the-variants as change
+use Rattle.pair.specs.declared.PairAnswer.{PairAnswer}
+use Rattle.pair.specs.declared.PairAnswer.the-variants as pair
+use Rattle.heaviest.specs.declared.HeaviestAnswer.{HeaviestAnswer}
+use Rattle.heaviest.specs.declared.HeaviestAnswer.the-variants as heaviest
+use Rattle.listing.specs.declared.Listed.{Listed}
+use Rattle.listing.specs.declared.Listed.the-variants as listing
 
 -- a row below 4,096, and a ring of no more rows than that
 pub record Room (row ring : ℕ) : Type 0 where
   pub low : row < 4096
   pub few : ring ≤ 4096
 
--- of a listing also counts of 63 bits
-pub record Storable (o : ListingOutcome) : Type 0 where
-  pub room : Room (o .row) (o .ring)
-  pub counts : o .number ≡ 0 → o .written + o .left < 9223372036854775808
+-- of each kind of answer: a refusal's
+abbrev pub AcceptanceRoom : Acceptance → Type 0
+AcceptanceRoom (acceptance.Accepted nodes bound) = Unit {0}
+AcceptanceRoom (acceptance.Refused why) = Room (why .row) (why .ring)
+
+abbrev pub PairRoom : PairAnswer → Type 0
+PairRoom (pair.Found length weight hops) = Unit {0}
+PairRoom (pair.Refused why) = Room (why .row) (why .ring)
+
+abbrev pub HeaviestRoom : HeaviestAnswer → Type 0
+HeaviestRoom (heaviest.Between low high length weight) = Unit {0}
+HeaviestRoom (heaviest.Refused why) = Room (why .row) (why .ring)
+
+abbrev pub HeadsRoom : HeadsAnswer → Type 0
+HeadsRoom heads.Written = Unit {0}
+HeadsRoom (heads.Refused why) = Room (why .row) (why .ring)
+
+abbrev pub ChangeRoom : Change → Type 0
+ChangeRoom (change.Changed count) = Unit {0}
+ChangeRoom (change.Refused why) = Room (why .row) (why .ring)
+
+-- of a page also counts of 63 bits
+abbrev pub PageRoom : Listed → Type 0
+PageRoom (listing.Rows written left) = written + left < 9223372036854775808
+PageRoom (listing.Refused why) = Room (why .row) (why .ring)

@@ -88,7 +88,7 @@ returns-3 c =
     let m : search-result .weight ≢ 0 = omega arith in
     let r = run-given _ (args .marks .now) (pre .0) search-ensures m _ (c .lowered .ensures) in
     let e = toZ-ofZ w64 (c .lowered .result) (record { sfits = c .lowered .ok }) in
-    rw e (passed (omega (arith, wide-ensures)) (passed (r .run, r .heaviest .one) r))
+    rw e (passed (omega (arith, wide-ensures)) (passed (_, r .one) r))
 
 pub choose-spec : {M : Type 1} → statement M
 choose-spec =

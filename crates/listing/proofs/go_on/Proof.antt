@@ -1,5 +1,4 @@
 -- `listing::go_on` tests 13 and 17 in order, then gives the page.
-use mathlib.Core.Path.{refl}
 use native.Mathlib.Omega.{arith}
 use borrow.Author.Needs.{needs}
 use mir.Syntax.{w64}
@@ -33,14 +32,7 @@ returns-3 c =
     let fits = c .before .before .before .before .before .before .before .before .before .before .fits in
     let e = toZ-ofZ w64 (args .floor) (fits .floor) in
     passed (omega (arith, wide-ensures))
-    (passed (omega arith)
-    (record {
-      taken = refl;
-      number = refl;
-      row = refl;
-      ring = refl;
-      page = rw e at (c .before .before .page .ensures);
-    }))
+    (passed (omega arith) (rw e at (c .before .before .page .ensures)))
 
 pub go-on-spec : {M : Type 1} → statement M
 go-on-spec =

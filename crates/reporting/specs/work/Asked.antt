@@ -5,7 +5,8 @@ use mathlib.Core.List.{List}
 use lib.IntN.{ℤ}
 use lib.ListN.{length}
 use Rattle.table.specs.Header.{nodesOf, boundOf}
-use Rattle.tree.specs.Accept.{netAccepted, Accepts}
+use Rattle.tree.specs.Accept.{Accepts}
+use Rattle.tree.specs.declared.Acceptance.the-variants.{Accepted}
 use Rattle.tree.specs.work.Net.{Net}
 use Rattle.pages.specs.Listing.{Entry}
 use Rattle.pages.specs.Passes.{Qualifies}
@@ -14,7 +15,7 @@ use Rattle.ground.specs.PathOf.{PathOf}
 
 -- a call of the listing is not refused: an accepted table, a mark for each branch, room for a row
 pub record ListingReady (s marks rows : List ℕ) : Type 0 where
-  pub accepted : Accepts s (netAccepted (nodesOf s) (boundOf s))
+  pub accepted : Accepts s (Accepted (nodesOf s) (boundOf s))
   pub marked : length marks ≡ nodesOf s - 1
   pub room : 16 ≤ length rows
 

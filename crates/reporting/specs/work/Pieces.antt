@@ -8,7 +8,8 @@ use lib.ListN.{length, take, replicate}
 use mir.Syntax.{w64}
 use mir.Val.{SFits}
 use Rattle.table.specs.Header.{nodesOf, boundOf}
-use Rattle.tree.specs.Accept.{netAccepted, Accepts}
+use Rattle.tree.specs.Accept.{Accepts}
+use Rattle.tree.specs.declared.Acceptance.the-variants.{Accepted}
 use Rattle.marks.specs.Mark.{free}
 use Rattle.pages.specs.Listing.{Entry}
 use Rattle.pages.specs.Bytes.{entries}
@@ -45,7 +46,7 @@ pub record Paging (s marks : List ℕ) (floor : ℤ) (total : ℕ) (rows : List 
 -- what is needed to go on from a place: the table is accepted, and the page is one of the listing that the report lists
 pub record Going (s rows : List ℕ) (p : Piece) (at : ℕ) : Type 0 where
   pub more : p .more ≡ true
-  pub accepted : Accepts s (netAccepted (nodesOf s) (boundOf s))
+  pub accepted : Accepts s (Accepted (nodesOf s) (boundOf s))
   pub nodes : p .nodes ≡ nodesOf s
   pub fits : SFits w64 (p .floor)
   pub paging : Paging s (allFree (p .nodes)) (p .floor) (p .total) rows (p .written) (p .left) (p .row) at

@@ -1,7 +1,7 @@
 -- `table::open_table` meets its contract: at each return the tests passed are the good conditions before it, in the
 -- paper's order, and the test taken refutes the next.
 use Rattle.table.specs.Refuse.{refused, passed}
-use Rattle.table.specs.Outcome.{openingRefusal}
+use Rattle.table.specs.Opens.{openingRefusal}
 use Rattle.table.proofs.Accepted.{past-header}
 use native.Mathlib.Omega.{arith}
 use borrow.Author.Needs.{needs}

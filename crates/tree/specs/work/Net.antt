@@ -4,7 +4,7 @@ use mathlib.Core.Logic.{_≢_}
 use mathlib.Core.List.{List}
 use Rattle.table.specs.Row.{Stands}
 use Rattle.table.specs.Signed.{InRange}
-use Rattle.tree.specs.Graph.{Forest}
+use Rattle.tree.specs.work.Forest.{Forest}
 use Rattle.tree.specs.Net.{firstEnd, secondEnd, lengthOf, weightOf, Whole}
 
 -- an accepted net of n nodes: n − 1 good rows, no ring, and all joined

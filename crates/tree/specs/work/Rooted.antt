@@ -2,7 +2,8 @@
 use Prim.Native.Nat.{ℕ, _<_}
 use mathlib.Core.Path.{_≡_}
 use mathlib.Core.Logic.{_≢_}
-use Rattle.tree.specs.Graph.{First, Ends, Joined, Forest}
+use Rattle.tree.specs.Graph.{First, Ends, Joined}
+use Rattle.tree.specs.work.Forest.{Forest}
 
 -- t is x, or on the climb from x to node 0
 pub data Above (par : ℕ → ℕ) (t : ℕ) : ℕ → Type 0 where

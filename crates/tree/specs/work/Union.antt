@@ -5,7 +5,8 @@ use mathlib.Core.Logic.{_⊎_, _≢_}
 use mathlib.Core.List.{List}
 use lib.ListN.{length, set}
 use Rattle.arrays.specs.At.{at}
-use Rattle.tree.specs.Graph.{RingAt, Forest}
+use Rattle.tree.specs.Graph.{RingAt}
+use Rattle.tree.specs.work.Forest.{Forest}
 
 -- each of the first i of 4,096 places holds its own number
 pub record Numbered (i : ℕ) (l : List ℕ) : Type 0 where

@@ -47,7 +47,7 @@ returns-4 c =
     let args = c .before .before .before .before .before .before .before .before .before .args in
     let N : RunNumber (args .run) = record { above = omega (arith, if2-left); below = omega (arith, if3-left) } in
     passed (omega (arith, if1-left, wide-ensures .0))
-    (passed N (record { is = refl; marks = holds-held N (c .before .before .replace .ensures) }))
+    (passed N (holds-held N (c .before .before .replace .ensures)))
 
 pub settle-net-spec : {M : Type 1} → statement M
 settle-net-spec =
