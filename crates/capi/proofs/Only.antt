@@ -6,7 +6,7 @@ use lib.IntN.{ℤ}
 use Rattle.table.specs.Refuse.{Only}
 use Rattle.tree.proofs.Begins.{accept-only}
 use Rattle.spines.proofs.HeadsOnly.{heads-only}
-use Rattle.marks.proofs.MarksOnly.{claim-only, commit-only, abort-only}
+use Rattle.changes.proofs.Only.{claim-only, commit-only, abort-only}
 use Rattle.pair.proofs.Only.{pair-only}
 use Rattle.heaviest.proofs.Only.{heaviest-only, heaviest-exact-only}
 use Rattle.listing.proofs.Only.{listing-only, listing-exact-only}

@@ -12,10 +12,10 @@ use Rattle.tree.proofs.Outcomes.{Told, by-unless, by-beginning}
 use Rattle.spines.specs.Heads.{Heads, Headings, headsRefusal}
 use Rattle.spines.specs.declared.HeadsAnswer.{HeadsAnswer}
 use Rattle.spines.specs.declared.HeadsAnswer.the-variants as heads
-use Rattle.marks.specs.Change.{Done, Settles, changeRefusal}
-use Rattle.marks.specs.declared.Change.{Change}
-use Rattle.marks.specs.declared.Change.the-variants as change
-use Rattle.marks.specs.Claim.{Claims}
+use Rattle.changes.specs.Change.{Done, Settles, changeRefusal}
+use Rattle.changes.specs.declared.Change.{Change}
+use Rattle.changes.specs.declared.Change.the-variants as change
+use Rattle.changes.specs.Claim.{Claims}
 use Rattle.pair.specs.Pair.{ShowsPath, PairOf, pairRefusal}
 use Rattle.pair.specs.declared.PairAnswer.{PairAnswer}
 use Rattle.pair.specs.declared.PairAnswer.the-variants as pair
@@ -44,7 +44,8 @@ pub accept-low : (s : List ℕ) (x : Acceptance) → Accepts s x → AcceptanceR
 accept-low s x p = by-beginning AcceptanceRoom acceptanceRefusal s told (λ o e. rw e tt) p
 
 pub pair-low : (s marks : List ℕ) (a b : ℕ) (x : PairAnswer) → PairOf s marks a b x → PairRoom x
-pair-low s marks a b x p = by-beginning PairRoom pairRefusal s told (own PairRoom nowhere (own PairRoom nowhere (found _))) p
+pair-low s marks a b x p =
+    by-beginning PairRoom pairRefusal s told (own PairRoom nowhere (own PairRoom nowhere (found _))) p
   where
     found : (n : ℕ) (x : PairAnswer) → ShowsPath s marks n a b x → PairRoom x
     found n (pair.Found l w h) q = tt

@@ -5,8 +5,8 @@ use mathlib.Core.List.{List}
 use lib.IntN.{ℤ}
 use Rattle.tree.specs.Accept.{Accepts}
 use Rattle.spines.specs.Heads.{Headings}
-use Rattle.marks.specs.Change.{Commits, Aborts}
-use Rattle.marks.specs.Claim.{Claims}
+use Rattle.changes.specs.Change.{Commits, Aborts}
+use Rattle.changes.specs.Claim.{Claims}
 use Rattle.pair.specs.Pair.{PairOf}
 use Rattle.heaviest.specs.Heaviest.{HeaviestOf, HeaviestExactOf}
 use Rattle.listing.specs.Listing.{ListingOf, ListingExactOf}

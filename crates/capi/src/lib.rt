@@ -117,7 +117,7 @@ pub extern "C" fn hb_claim(
     ensures { λ r. ⌜ ClaimCall (now (s .entry)) (now (marks .entry)) run a b
         (call r (now (answer .exit)) (now (marks .exit))) ⌝ }
 {
-    let o = marks::claim(s, marks, run, a, b);
+    let o = changes::claim(s, marks, run, a, b);
     show_change(o, answer)
 }
 
@@ -127,7 +127,7 @@ pub extern "C" fn hb_commit(s: &[u8], marks: &mut [u16], run: u16, answer: &mut 
     ensures { λ r. ⌜ CommitCall (now (s .entry)) (now (marks .entry)) run
         (call r (now (answer .exit)) (now (marks .exit))) ⌝ }
 {
-    let o = marks::commit(s, marks, run);
+    let o = changes::commit(s, marks, run);
     show_change(o, answer)
 }
 
@@ -137,6 +137,6 @@ pub extern "C" fn hb_abort(s: &[u8], marks: &mut [u16], run: u16, answer: &mut [
     ensures { λ r. ⌜ AbortCall (now (s .entry)) (now (marks .entry)) run
         (call r (now (answer .exit)) (now (marks .exit))) ⌝ }
 {
-    let o = marks::abort(s, marks, run);
+    let o = changes::abort(s, marks, run);
     show_change(o, answer)
 }

@@ -4,9 +4,9 @@ use crate::read;
 use crate::read::Ask;
 use crate::say;
 use crate::say::Answer;
+use changes::Change;
 use heaviest::HeaviestAnswer;
 use listing::Listed;
-use marks::Change;
 use pair::PairAnswer;
 use spines::HeadsAnswer;
 use table::Opening;
@@ -113,9 +113,9 @@ fn of_table(s: &[u8], q: Ask) {
     match code {
         1 => say::line(opened(table::open_table(s))),
         2 => say::line(opened(table::examine(s))),
-        3 => say::bytes(say::fine(0, 0, 0), table::row_part(s, row), shown),
-        4 => say::line(say::fine(1, table::next_row(s, row) as u64, 0)),
-        _ => say::bytes(say::fine(0, 0, 0), table::first_row(s), shown),
+        3 => say::bytes(say::fine(0, 0, 0), reader::row_part(s, row), shown),
+        4 => say::line(say::fine(1, reader::next_row(s, row) as u64, 0)),
+        _ => say::bytes(say::fine(0, 0, 0), reader::first_row(s), shown),
     }
 }
 
@@ -166,9 +166,9 @@ fn of_heads(s: &[u8], q: Ask) {
 fn change(s: &[u8], marks: &mut [u16], q: Ask) -> Answer {
     let code = q.code;
     match code {
-        65 => changed(marks::claim(s, marks, q.run, q.a, q.b)),
-        66 => changed(marks::commit(s, marks, q.run)),
-        _ => changed(marks::abort(s, marks, q.run)),
+        65 => changed(changes::claim(s, marks, q.run, q.a, q.b)),
+        66 => changed(changes::commit(s, marks, q.run)),
+        _ => changed(changes::abort(s, marks, q.run)),
     }
 }
 

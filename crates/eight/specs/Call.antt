@@ -1,4 +1,4 @@
--- What a C function inC: the number returned, the eight numbers of `answer`, and the memory lent to be written.
+-- What a C function leaves: the number returned, the eight numbers of `answer`, and the memory lent to be written.
 use Prim.Native.Nat.{ℕ}
 use mathlib.Core.List.{List, [], _∷_}
 use lib.IntN.{ℤ, pos}
@@ -7,7 +7,7 @@ use lib.IntN.{ℤ, pos}
 abbrev pub eightOf : ℕ → ℕ → ℕ → ℤ → ℤ → ℤ → ℤ → List ℤ
 eightOf k r g a b c d = pos k ∷ pos r ∷ pos g ∷ a ∷ b ∷ c ∷ d ∷ pos 0 ∷ []
 
--- all that a call inC; the lent memory is [] where none is lent to be written
+-- all that a call leaves; the lent memory is [] where none is lent to be written
 pub record Call : Type 0 where
   pub returned : ℕ
   pub answer : List ℤ

@@ -7,8 +7,8 @@ use Rattle.tree.specs.declared.Acceptance.{Acceptance}
 use Rattle.tree.specs.declared.Acceptance.the-variants as acceptance
 use Rattle.spines.specs.declared.HeadsAnswer.{HeadsAnswer}
 use Rattle.spines.specs.declared.HeadsAnswer.the-variants as heads
-use Rattle.marks.specs.declared.Change.{Change}
-use Rattle.marks.specs.declared.Change.the-variants as change
+use Rattle.changes.specs.declared.Change.{Change}
+use Rattle.changes.specs.declared.Change.the-variants as change
 use Rattle.pair.specs.declared.PairAnswer.{PairAnswer}
 use Rattle.pair.specs.declared.PairAnswer.the-variants as pair
 use Rattle.heaviest.specs.declared.HeaviestAnswer.{HeaviestAnswer}

@@ -10,9 +10,9 @@ ghost use Rattle.eight.specs.Shown.{acceptanceInC, pairInC, heaviestInC,
 ghost use Rattle.eight.specs.work.Room.{AcceptanceRoom, PairRoom, HeaviestRoom, HeadsRoom, PageRoom, ChangeRoom};
 use crate::answer::fill;
 use crate::answer::refuse;
+use changes::Change;
 use heaviest::HeaviestAnswer;
 use listing::Listed;
-use marks::Change;
 use pair::PairAnswer;
 use spines::HeadsAnswer;
 use tree::Acceptance;

@@ -4,7 +4,7 @@ use Prim.Native.Nat.{ℕ}
 use mathlib.Core.Path.{sym, _∙_}
 use mathlib.Core.List.{List}
 use lib.IntN.{ℤ}
-use Rattle.tree.proofs.Values.{total-same}
+use Rattle.net.proofs.Values.{total-same}
 use Rattle.marks.specs.Weighs.{weightUnder}
 use Rattle.marks.proofs.Weights.{Alike, holders-alike}
 use Rattle.pages.specs.Listing.{Entry}

@@ -6,8 +6,8 @@ use native.Mathlib.Omega.{arith}
 use lib.IntN.{ℤ, pos, negsuc, natAbs}
 use mir.Syntax.{w64}
 use mir.Val.{SFits}
-use Rattle.tree.specs.work.Net.{Net}
-use Rattle.tree.proofs.Short.{path-short, path-light}
+use Rattle.net.specs.work.Net.{Net}
+use Rattle.net.proofs.Short.{path-short, path-light}
 use Rattle.marks.proofs.Weights.{under-near}
 use Rattle.pages.specs.Listing.{Entry}
 use Rattle.pages.specs.Passes.{Passes}

@@ -10,10 +10,10 @@ use lib.Seq.{getD-set-same, getD-set-other}
 use Rattle.arrays.specs.At.{at}
 use Rattle.arrays.specs.work.Filled.{Filled}
 use Rattle.table.specs.work.Diff.{Diff}
-use Rattle.tree.specs.Net.{firstEnd, secondEnd, lengthOf}
-use Rattle.tree.specs.work.Net.{Net}
-use Rattle.tree.specs.work.Walked.{Walked}
-use Rattle.tree.proofs.NetWalk.{walk-grown, walk-rooted}
+use Rattle.net.specs.Net.{firstEnd, secondEnd, lengthOf}
+use Rattle.net.specs.work.Net.{Net}
+use Rattle.reach.specs.work.Walked.{Walked}
+use Rattle.reach.proofs.NetWalk.{walk-grown, walk-rooted}
 use Rattle.paths.specs.work.Ground.{Ground}
 use Rattle.marks.specs.Weighs.{weightUnder}
 use Rattle.ground.specs.work.Grounded.{BranchesReadable, Branches, Grounded}

@@ -2,8 +2,8 @@
 use Prim.Native.Nat.{ℕ, _-_}
 use mathlib.Core.List.{List}
 use lib.IntN.{ℤ}
-use Rattle.tree.specs.Net.{firstEnd, secondEnd, lengthOf}
-use Rattle.tree.specs.Value.{Value}
+use Rattle.net.specs.Net.{firstEnd, secondEnd, lengthOf}
+use Rattle.net.specs.Value.{Value}
 use Rattle.marks.specs.Weighs.{weightUnder}
 
 -- in the net of n nodes of table s the path from a to b has this length and this weight

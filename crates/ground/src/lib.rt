@@ -1,5 +1,5 @@
 // What a sweep over an accepted net stands on: its walk, and each node's own branch, under the marks.
-ghost use Rattle.tree.specs.work.Net.{Net};
+ghost use Rattle.net.specs.work.Net.{Net};
 ghost use Rattle.ground.specs.work.Grounded.{BranchesReadable, Branches, Grounded};
 
 // The walk of an accepted net, and its branches.

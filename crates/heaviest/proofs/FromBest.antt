@@ -9,9 +9,9 @@ use lib.IntN.{ℤ}
 use Rattle.table.specs.work.Diff.{Diff}
 use Rattle.table.specs.work.Lift.{LoweredOf}
 use Rattle.table.proofs.Lift.{same, order-back, lift-only, diff-only, equally}
-use Rattle.tree.specs.Net.{firstEnd, secondEnd}
-use Rattle.tree.specs.work.Net.{Net}
-use Rattle.tree.proofs.Values.{length-only, weight-only}
+use Rattle.net.specs.Net.{firstEnd, secondEnd}
+use Rattle.net.specs.work.Net.{Net}
+use Rattle.net.proofs.Values.{length-only, weight-only}
 use Rattle.pages.specs.Listing.{Entry, entry, Before, first, second}
 use Rattle.spans.specs.work.Pairs.{best4, Le}
 use Rattle.spans.specs.declared.across.Best.{Best}

@@ -2,7 +2,7 @@
 // greatest weight; among equals the shorter, then the earlier pair.
 ghost use Prim.Native.Nat.{_<_};
 ghost use Rattle.table.specs.Header.{boundOf};
-ghost use Rattle.tree.specs.work.Net.{Net};
+ghost use Rattle.net.specs.work.Net.{Net};
 ghost use Rattle.limits.specs.work.Fits.{Within, Fits};
 ghost use Rattle.layout.specs.work.BestPair.{BestPair};
 ghost use Rattle.heaviest.specs.Heaviest.{Chooses, HeaviestWithin, HeaviestOf, HeaviestExactOf};

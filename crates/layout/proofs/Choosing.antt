@@ -8,10 +8,10 @@ use mathlib.Core.List.{List}
 use native.Mathlib.Omega.{arith}
 use native.Mathlib.Decide.{ℕ-discrete, decLt}
 use Rattle.arrays.specs.At.{at}
-use Rattle.tree.specs.work.Rooted.{Above}
-use Rattle.tree.specs.work.Grown.{Grown}
-use Rattle.tree.proofs.Above.{Tree, fits-up}
-use Rattle.tree.proofs.Grown.{grown-tree}
+use Rattle.net.specs.work.Rooted.{Above}
+use Rattle.reach.specs.work.Grown.{Grown}
+use Rattle.net.proofs.Above.{Tree, fits-up}
+use Rattle.reach.proofs.Grown.{grown-tree}
 use Rattle.spans.specs.work.Pairs.{best4}
 use Rattle.spans.specs.declared.across.Best.{Best}
 use Rattle.parts.specs.work.Lift.{keyLift, Low}

@@ -5,7 +5,7 @@ use mathlib.Core.Path.{_≡_}
 use mathlib.Core.Logic.{_⊎_, _≢_}
 use mathlib.Core.List.{List}
 use Rattle.arrays.specs.At.{at}
-use Rattle.tree.specs.work.Rooted.{Above}
+use Rattle.net.specs.work.Rooted.{Above}
 use Rattle.spans.specs.work.Pairs.{best4, Le}
 use Rattle.spans.specs.declared.across.Best.{Best}
 use Rattle.parts.specs.work.Lift.{keyLift}

@@ -8,9 +8,9 @@ use native.Mathlib.Numerals.{add-one}
 use native.Mathlib.Decide.{ℕ-discrete}
 use lib.ListN.{length}
 use Rattle.arrays.specs.Members.{In, at, past, Distinct}
-use Rattle.tree.specs.Count.{Count}
+use Rattle.net.specs.Count.{Count}
 use Rattle.arrays.proofs.Members.{not-nil, in?}
-use Rattle.tree.proofs.Counts.{distinct-le, count-none, count-one, count-add}
+use Rattle.net.proofs.Counts.{distinct-le, count-none, count-one, count-add}
 
 module _ (f : ℕ → ℕ) where
   images : List ℕ → List ℕ

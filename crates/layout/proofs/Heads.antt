@@ -6,11 +6,11 @@ use mathlib.Core.Logic.{_⊎_, inl, inr, _≢_}
 use mathlib.Core.List.{List}
 use native.Mathlib.Omega.{arith}
 use Rattle.arrays.specs.At.{at}
-use Rattle.tree.specs.work.Rooted.{Above}
-use Rattle.tree.specs.work.Grown.{Grown}
-use Rattle.tree.proofs.Rooted.{above-inv}
-use Rattle.tree.proofs.Above.{Tree, place-up}
-use Rattle.tree.proofs.Grown.{grown-tree}
+use Rattle.net.specs.work.Rooted.{Above}
+use Rattle.reach.specs.work.Grown.{Grown}
+use Rattle.net.proofs.Rooted.{above-inv}
+use Rattle.net.proofs.Above.{Tree, place-up}
+use Rattle.reach.proofs.Grown.{grown-tree}
 use Rattle.spines.specs.Spine.{Main, Head, top, down}
 use Rattle.spines.specs.work.Parents.{Child, HeadsAll}
 use Rattle.spines.proofs.Below.{child-fits, child-later}

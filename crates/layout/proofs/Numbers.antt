@@ -6,11 +6,11 @@ use mathlib.Core.List.{List}
 use native.Mathlib.Omega.{arith}
 use native.Mathlib.Decide.{ℕ-discrete}
 use Rattle.arrays.specs.At.{at}
-use Rattle.tree.specs.work.Rooted.{Above}
-use Rattle.tree.specs.work.Grown.{Grown}
-use Rattle.tree.proofs.Rooted.{above-inv}
-use Rattle.tree.proofs.Above.{Tree}
-use Rattle.tree.proofs.Grown.{grown-tree}
+use Rattle.net.specs.work.Rooted.{Above}
+use Rattle.reach.specs.work.Grown.{Grown}
+use Rattle.net.proofs.Rooted.{above-inv}
+use Rattle.net.proofs.Above.{Tree}
+use Rattle.reach.proofs.Grown.{grown-tree}
 use Rattle.spines.specs.work.Parents.{Child}
 use Rattle.spines.proofs.Below.{child-fits, via}
 use Rattle.spines.proofs.Head.{head-above}

@@ -7,7 +7,7 @@ use mathlib.Core.List.{List}
 use native.Mathlib.Omega.{arith}
 use lib.IntN.{ℤ}
 use Rattle.table.proofs.Lift.{lift-only, equally}
-use Rattle.tree.specs.Value.{Value}
+use Rattle.net.specs.Value.{Value}
 use Rattle.paths.specs.work.Ground.{Ground}
 use Rattle.paths.proofs.Single.{one-value}
 use Rattle.spans.specs.work.Pairs.{best4, Le}

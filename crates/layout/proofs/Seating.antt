@@ -10,12 +10,12 @@ use lib.ListN.{set, length-set}
 use lib.Seq.{getD-set-same, getD-set-other}
 use Rattle.arrays.specs.At.{at}
 use Rattle.arrays.specs.work.Filled.{Filled}
-use Rattle.tree.specs.Count.{Count}
-use Rattle.tree.specs.work.Rooted.{Above, self}
-use Rattle.tree.specs.work.Grown.{Grown}
-use Rattle.tree.proofs.Counts.{count-le, count-same, count-one, count-add, count-below, count-some}
-use Rattle.tree.proofs.Above.{Tree, place-up}
-use Rattle.tree.proofs.Grown.{grown-tree, root-place, not-root, same-place}
+use Rattle.net.specs.Count.{Count}
+use Rattle.net.specs.work.Rooted.{Above, self}
+use Rattle.reach.specs.work.Grown.{Grown}
+use Rattle.net.proofs.Counts.{count-le, count-same, count-one, count-add, count-below, count-some}
+use Rattle.net.proofs.Above.{Tree, place-up}
+use Rattle.reach.proofs.Grown.{grown-tree, root-place, not-root, same-place}
 use Rattle.spines.specs.work.Parents.{Child, SizesAll}
 use Rattle.spines.proofs.Below.{child-fits, child-later, child-below, via-one}
 use Rattle.layout.specs.work.Seats.{SeatRoom, Seated, Hanging, Used, Seating}

@@ -7,13 +7,13 @@ use mathlib.Core.List.{List}
 use native.Mathlib.Omega.{arith}
 use native.Mathlib.Decide.{ℕ-discrete}
 use Rattle.arrays.specs.At.{at}
-use Rattle.tree.specs.Count.{Count}
-use Rattle.tree.specs.work.Rooted.{Above, self, up}
-use Rattle.tree.specs.work.Grown.{Grown}
-use Rattle.tree.proofs.Counts.{count-some, count-unique, count-all, count-same}
-use Rattle.tree.proofs.Above.{Tree}
-use Rattle.tree.proofs.Climbs.{root-above}
-use Rattle.tree.proofs.Grown.{grown-tree}
+use Rattle.net.specs.Count.{Count}
+use Rattle.net.specs.work.Rooted.{Above, self, up}
+use Rattle.reach.specs.work.Grown.{Grown}
+use Rattle.net.proofs.Counts.{count-some, count-unique, count-all, count-same}
+use Rattle.net.proofs.Above.{Tree}
+use Rattle.net.proofs.Climbs.{root-above}
+use Rattle.reach.proofs.Grown.{grown-tree}
 use Rattle.spines.specs.work.Parents.{Child, HeadsAll, SizesAll}
 use Rattle.spines.proofs.Below.{child-fits, child-later, via}
 use Rattle.layout.specs.work.Seats.{Hanging, Used, Seating}

@@ -12,17 +12,17 @@ use Rattle.arrays.specs.At.{at}
 use Rattle.table.specs.work.Diff.{Diff}
 use Rattle.table.proofs.Lift.{diff, same, sum, lift-only, equally}
 use Rattle.arrays.specs.Members.{In}
-use Rattle.tree.specs.Graph.{Walk, stop, go}
-use Rattle.tree.specs.Path.{Sum}
-use Rattle.tree.specs.work.Rooted.{Above, self, up}
-use Rattle.tree.specs.Value.{Total, Value}
-use Rattle.tree.proofs.Above.{Tree, fits-up}
-use Rattle.tree.proofs.Counts.{upto, upto-length, upto-in, distinct-le}
-use Rattle.tree.proofs.Far.{far, far-sums}
-use Rattle.tree.proofs.Grown.{grown-tree}
-use Rattle.tree.proofs.Rooted.{above-inv}
-use Rattle.tree.proofs.Route.{Sums, Route, route, route-value}
-use Rattle.tree.proofs.Values.{length-only, weight-only, value-none, value-down}
+use Rattle.net.specs.Graph.{Walk, stop, go}
+use Rattle.net.specs.Path.{Sum}
+use Rattle.net.specs.work.Rooted.{Above, self, up}
+use Rattle.net.specs.Value.{Total, Value}
+use Rattle.net.proofs.Above.{Tree, fits-up}
+use Rattle.net.proofs.Counts.{upto, upto-length, upto-in, distinct-le}
+use Rattle.net.proofs.Far.{far, far-sums}
+use Rattle.reach.proofs.Grown.{grown-tree}
+use Rattle.net.proofs.Rooted.{above-inv}
+use Rattle.net.proofs.Route.{Sums, Route, route, route-value}
+use Rattle.net.proofs.Values.{length-only, weight-only, value-none, value-down}
 use Rattle.paths.specs.work.Ground.{Ground}
 use Rattle.paths.specs.work.Paths.{Paths}
 use Rattle.spans.specs.work.Pairs.{best4, Le}

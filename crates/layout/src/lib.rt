@@ -2,8 +2,8 @@
 // each other: a node, then the trees that hang from it one after the other, then the rest of its spine. seats.rt gives
 // each node its spot; laid.rt lays out arrays by spot; the lists of crate parts then find the best pair.
 ghost use Prim.Native.Nat.{_<_};
-ghost use Rattle.tree.specs.work.Grown.{Grown};
-ghost use Rattle.tree.specs.Value.{Value};
+ghost use Rattle.reach.specs.work.Grown.{Grown};
+ghost use Rattle.net.specs.Value.{Value};
 ghost use Rattle.paths.specs.work.Ground.{Ground};
 ghost use Rattle.limits.specs.work.Fits.{Fits};
 ghost use Rattle.layout.specs.work.BestPair.{BestPair};

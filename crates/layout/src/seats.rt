@@ -2,7 +2,7 @@
 // then the rest of its spine.
 ghost use Prim.Native.Nat.{_<_};
 ghost use Rattle.arrays.specs.At.{at};
-ghost use Rattle.tree.specs.work.Grown.{Grown};
+ghost use Rattle.reach.specs.work.Grown.{Grown};
 ghost use Rattle.spines.specs.work.Parents.{SizesAll};
 ghost use Rattle.layout.specs.work.Seats.{SeatRoom, Seated, Seating};
 use arrays::fill;

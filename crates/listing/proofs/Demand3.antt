@@ -13,7 +13,7 @@ use Rattle.table.specs.Header.{nodesOf, boundOf}
 use Rattle.table.proofs.Refusals.{settled}
 use Rattle.tree.specs.Accept.{Accepts}
 use Rattle.tree.specs.declared.Acceptance.the-variants.{Accepted}
-use Rattle.tree.specs.work.Net.{Net}
+use Rattle.net.specs.work.Net.{Net}
 use Rattle.tree.proofs.Begins.{begins-rest}
 use Rattle.pages.specs.Listing.{Entry, Listing}
 use Rattle.pages.specs.Passes.{Qualifies}

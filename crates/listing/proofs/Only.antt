@@ -8,7 +8,7 @@ use lib.IntN.{ℤ}
 use Rattle.table.specs.Refuse.{Only}
 use Rattle.table.specs.Header.{nodesOf}
 use Rattle.table.proofs.Refusals.{unless-only, past}
-use Rattle.tree.specs.work.Net.{Net}
+use Rattle.net.specs.work.Net.{Net}
 use Rattle.tree.proofs.Begins.{begins-only, begins-past}
 use Rattle.pages.specs.Listing.{Entry}
 use Rattle.pages.specs.Passes.{Qualifies}

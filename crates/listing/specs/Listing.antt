@@ -1,5 +1,5 @@
--- The operations listing and listing_exact: refusals 1 to 12, then 13 and 17; then the page. A call leaves an answer and
--- the lent bytes.
+-- The operations listing and listing_exact: refusals 1 to 12, then 13 and 17; then the page. A call leaves an answer
+-- and the lent bytes.
 use Prim.Native.Nat.{ℕ, _-_, _≤_}
 use mathlib.Core.Path.{_≡_}
 use mathlib.Core.List.{List}

@@ -3,7 +3,7 @@
 mod scan;
 
 ghost use Rattle.table.specs.Header.{boundOf};
-ghost use Rattle.tree.specs.work.Net.{Net};
+ghost use Rattle.net.specs.work.Net.{Net};
 ghost use Rattle.limits.specs.work.Fits.{Within, Fits};
 ghost use Rattle.listing.specs.Listing.{GoesOn, ListingWithin, ListingOf, ListingExactOf};
 use limits::Limit;

@@ -1,6 +1,6 @@
 // The scan of an accepted net: for each first node from the start's on, the paths to all nodes, and of the second nodes
 // those that pass.
-ghost use Rattle.tree.specs.work.Net.{Net};
+ghost use Rattle.net.specs.work.Net.{Net};
 ghost use Rattle.limits.specs.work.Fits.{Fits};
 ghost use Rattle.pages.specs.Passes.{Qualifies};
 ghost use Rattle.pages.specs.Paged.{Paged};

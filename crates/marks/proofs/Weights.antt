@@ -14,8 +14,8 @@ use Rattle.table.specs.Refuse.{Only}
 use Rattle.table.specs.work.Diff.{Diff, up, down}
 use Rattle.table.proofs.Only.{lifted-only}
 use Rattle.table.proofs.Near.{within-near}
-use Rattle.tree.specs.work.Net.{Net}
-use Rattle.tree.specs.Net.{weightOf}
+use Rattle.net.specs.work.Net.{Net}
+use Rattle.net.specs.Net.{weightOf}
 use Rattle.marks.specs.Mark.{Free}
 use Rattle.marks.specs.Weighs.{lesser, weighs, weightUnder}
 use Rattle.marks.specs.work.Lifted.{LiftedUnder}

@@ -1,7 +1,5 @@
 -- What a reader must believe of this crate; work holds what its functions promise each other, no part of an operation's
 -- promise.
-pub mod Change
-pub mod Claim
 pub mod Mark
 pub mod Weighs
 pub mod work

@@ -6,7 +6,7 @@ use Prim.Native.Nat.{ℕ, zero, suc}
 use lib.IntN.{ℤ, pos}
 use lib.Signed.{leZ}
 use Rattle.arrays.specs.At.{at}
-use Rattle.tree.specs.Net.{weightOf}
+use Rattle.net.specs.Net.{weightOf}
 
 -- x where x is at most y, y where not
 abbrev pub lesser : ℤ → ℤ → ℤ

@@ -5,9 +5,9 @@ use mathlib.Core.List.{List}
 use Rattle.table.specs.Refuse.{Only}
 use Rattle.table.specs.Header.{nodesOf}
 use Rattle.table.proofs.Refusals.{unless-only}
-use Rattle.tree.specs.Net.{firstEnd, secondEnd}
-use Rattle.tree.specs.work.Net.{Net}
-use Rattle.tree.proofs.Values.{length-only, weight-only}
+use Rattle.net.specs.Net.{firstEnd, secondEnd}
+use Rattle.net.specs.work.Net.{Net}
+use Rattle.net.proofs.Values.{length-only, weight-only}
 use Rattle.tree.proofs.Begins.{begins-net-only}
 use Rattle.spines.proofs.HopsBound.{hops-only}
 use Rattle.pair.specs.Pair.{pairRefusal, ShowsPath, Measures, PairOf}

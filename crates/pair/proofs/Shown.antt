@@ -6,10 +6,10 @@ use native.Mathlib.Omega.{arith}
 use lib.IntN.{ℤ}
 use Rattle.arrays.specs.At.{at}
 use Rattle.table.specs.work.Lift.{LoweredOf}
-use Rattle.tree.specs.Net.{firstEnd, secondEnd, TwoNodes}
-use Rattle.tree.specs.work.Grown.{Grown}
-use Rattle.tree.proofs.NetWalk.{walk-grown, walk-rooted}
-use Rattle.tree.proofs.Short.{path-short}
+use Rattle.net.specs.Net.{firstEnd, secondEnd, TwoNodes}
+use Rattle.reach.specs.work.Grown.{Grown}
+use Rattle.reach.proofs.NetWalk.{walk-grown, walk-rooted}
+use Rattle.net.proofs.Short.{path-short}
 use Rattle.spines.specs.work.Parents.{HeadsAll, Spined, HopsBy}
 use Rattle.paths.specs.work.Ground.{Ground}
 use Rattle.paths.specs.work.Paths.{Begun}

@@ -7,11 +7,11 @@ use native.Mathlib.Omega.{arith}
 use lib.IntN.{ℤ}
 use Rattle.table.specs.Header.{nodesOf}
 use Rattle.table.proofs.Refusals.{past, unless-map, unless-alike}
-use Rattle.tree.specs.Count.{Count}
-use Rattle.tree.specs.Net.{firstEnd, secondEnd, TwoNodes}
-use Rattle.tree.specs.work.Net.{Net}
+use Rattle.net.specs.Count.{Count}
+use Rattle.net.specs.Net.{firstEnd, secondEnd, TwoNodes}
+use Rattle.net.specs.work.Net.{Net}
 use Rattle.tree.proofs.Begins.{begins-past, begins-alike}
-use Rattle.tree.proofs.Flip.{value-flip, two-flip}
+use Rattle.net.proofs.Flip.{value-flip, two-flip}
 use Rattle.spines.specs.Spine.{ChildOf, Leaf}
 use Rattle.spines.specs.FloorLog.{FloorLog}
 use Rattle.spines.proofs.HopsBound.{hops-flip}

@@ -6,7 +6,7 @@ use mathlib.Core.List.{List}
 use lib.ListN.{length}
 use Rattle.table.specs.Refuse.{Unless}
 use Rattle.table.specs.Header.{nodesOf}
-use Rattle.tree.specs.Net.{firstEnd, secondEnd, TwoNodes}
+use Rattle.net.specs.Net.{firstEnd, secondEnd, TwoNodes}
 use Rattle.tree.specs.Accept.{Begins}
 use Rattle.spines.specs.Hops.{Hops}
 use Rattle.ground.specs.PathOf.{PathOf}

@@ -1,8 +1,8 @@
 // The operation pair: the path between two nodes, its length, its weight under the marks, and the spines that it
 // touches.
 ghost use Prim.Native.Nat.{_<_};
-ghost use Rattle.tree.specs.work.Net.{Net};
-ghost use Rattle.tree.specs.Net.{TwoNodes};
+ghost use Rattle.net.specs.work.Net.{Net};
+ghost use Rattle.net.specs.Net.{TwoNodes};
 ghost use Rattle.paths.specs.work.Ground.{Ground};
 ghost use Rattle.paths.specs.work.Paths.{Begun};
 ghost use Rattle.pair.specs.Pair.{ShowsPath, Measures, PairOf};

@@ -8,9 +8,9 @@ use lib.IntN.{ℤ, pos, subℕ, _+ℤ_, _-ℤ_, +ℤ-negℤ-cancel}
 use Rattle.arrays.specs.At.{at}
 use Rattle.table.specs.work.Diff.{Diff, up}
 use Rattle.table.proofs.Lift.{diff, same, diff-only, sum}
-use Rattle.tree.specs.work.Rooted.{Above}
-use Rattle.tree.specs.Value.{Value}
-use Rattle.tree.proofs.Values.{value-none, value-down, value-up, value-nearer}
+use Rattle.net.specs.work.Rooted.{Above}
+use Rattle.net.specs.Value.{Value}
+use Rattle.net.proofs.Values.{value-none, value-down, value-up, value-nearer}
 use Rattle.paths.specs.work.Ground.{Ground}
 use Rattle.paths.specs.work.Sweeps.{Far}
 

@@ -9,10 +9,10 @@ use native.Mathlib.Decide.{ℕ-discrete}
 use lib.ListN.{length, set, length-set}
 use lib.Seq.{getD-set-same, getD-set-other}
 use Rattle.arrays.specs.At.{at}
-use Rattle.tree.specs.work.Rooted.{Above, self, up}
-use Rattle.tree.proofs.Rooted.{above-inv}
-use Rattle.tree.proofs.Above.{fits-up, place-up}
-use Rattle.tree.proofs.Grown.{grown-tree}
+use Rattle.net.specs.work.Rooted.{Above, self, up}
+use Rattle.net.proofs.Rooted.{above-inv}
+use Rattle.net.proofs.Above.{fits-up, place-up}
+use Rattle.reach.proofs.Grown.{grown-tree}
 use Rattle.paths.specs.work.Ground.{Ground}
 use Rattle.paths.specs.work.Sweeps.{Cleared, Climbed, Marked, Climbable, Climbing}
 use Rattle.paths.proofs.Branch.{far-start, far-weaken, far-up}

@@ -3,8 +3,8 @@ use Prim.Native.Nat.{ℕ}
 use mathlib.Core.Path.{_≡_}
 use mathlib.Core.List.{List}
 use lib.IntN.{ℤ}
-use Rattle.tree.specs.Value.{Value}
-use Rattle.tree.proofs.Values.{length-only, weight-only}
+use Rattle.net.specs.Value.{Value}
+use Rattle.net.proofs.Values.{length-only, weight-only}
 use Rattle.paths.specs.work.Ground.{Ground}
 
 pub one-value :

@@ -10,7 +10,7 @@ use lib.ListN.{length, set, length-set}
 use lib.Seq.{getD-set-same, getD-set-other}
 use Rattle.arrays.specs.At.{at}
 use Rattle.table.proofs.Lift.{diff-only}
-use Rattle.tree.proofs.Grown.{not-root, par-fits, par-earlier, read-node, read-parent}
+use Rattle.reach.proofs.Grown.{not-root, par-fits, par-earlier, read-node, read-parent}
 use Rattle.paths.specs.work.Ground.{Ground}
 use Rattle.paths.specs.work.Paths.{Paths}
 use Rattle.paths.specs.work.Sweeps.{Far, Swept, Sweepable, Sweeping, Steps, StepMade}

@@ -11,12 +11,12 @@ use lib.ListN.{length, set, length-set}
 use lib.Seq.{getD-set-same, getD-set-other}
 use Rattle.arrays.specs.At.{at}
 use Rattle.arrays.specs.work.Filled.{Filled}
-use Rattle.tree.specs.Count.{Count}
-use Rattle.tree.specs.work.Rooted.{Above}
-use Rattle.tree.specs.work.Grown.{Grown}
-use Rattle.tree.proofs.Counts.{count-same, count-none, count-add, count-below}
-use Rattle.tree.proofs.Above.{Tree, place-up}
-use Rattle.tree.proofs.Grown.{grown-tree, root-place, not-root, same-place}
+use Rattle.net.specs.Count.{Count}
+use Rattle.net.specs.work.Rooted.{Above}
+use Rattle.reach.specs.work.Grown.{Grown}
+use Rattle.net.proofs.Counts.{count-same, count-none, count-add, count-below}
+use Rattle.net.proofs.Above.{Tree, place-up}
+use Rattle.reach.proofs.Grown.{grown-tree, root-place, not-root, same-place}
 use Rattle.spines.specs.work.Parents.{Child}
 use Rattle.spines.proofs.Below.{via, via-one, child-later, child-fits, child-below}
 

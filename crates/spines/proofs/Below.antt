@@ -4,9 +4,9 @@ use mathlib.Core.Path.{_≡_, refl, sym, _∙_}
 use mathlib.Core.Logic.{_≢_, ⊎-elim}
 use native.Mathlib.Omega.{arith}
 use native.Mathlib.Decide.{ℕ-discrete}
-use Rattle.tree.specs.work.Rooted.{Above, self, up}
-use Rattle.tree.proofs.Rooted.{above-inv}
-use Rattle.tree.proofs.Above.{Tree, above-trans, above-chain, place-up}
+use Rattle.net.specs.work.Rooted.{Above, self, up}
+use Rattle.net.proofs.Rooted.{above-inv}
+use Rattle.net.proofs.Above.{Tree, above-trans, above-chain, place-up}
 use Rattle.spines.specs.Spine.{Under, here, step, Leaf, LeafUnder}
 use Rattle.spines.specs.work.Parents.{Child}
 

@@ -5,9 +5,9 @@ use mathlib.Core.Path.{_≡_, refl, sym, _∙_}
 use mathlib.Core.Logic.{_⊎_, inl, inr, _≢_}
 use native.Mathlib.Omega.{arith}
 use native.Mathlib.Decide.{ℕ-discrete}
-use Rattle.tree.specs.work.Rooted.{Above, self, up}
-use Rattle.tree.proofs.Rooted.{above-inv}
-use Rattle.tree.proofs.Above.{Tree, place-up, above-anti}
+use Rattle.net.specs.work.Rooted.{Above, self, up}
+use Rattle.net.proofs.Rooted.{above-inv}
+use Rattle.net.proofs.Above.{Tree, place-up, above-anti}
 use Rattle.spines.specs.Spine.{Main, Head, top, down}
 use Rattle.spines.specs.work.Parents.{Child}
 use Rattle.spines.proofs.Below.{child-later}

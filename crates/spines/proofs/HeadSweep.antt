@@ -8,9 +8,9 @@ use native.Mathlib.Decide.{ℕ-discrete}
 use lib.ListN.{set}
 use Rattle.arrays.specs.At.{at}
 use Rattle.arrays.specs.work.Filled.{Filled}
-use Rattle.tree.specs.work.Grown.{Grown}
-use Rattle.tree.proofs.Grown.{not-root}
-use Rattle.tree.proofs.Sweep.{Swept, swept-root, swept-parent, swept-next, swept-all}
+use Rattle.reach.specs.work.Grown.{Grown}
+use Rattle.reach.proofs.Grown.{not-root}
+use Rattle.reach.proofs.Sweep.{Swept, swept-root, swept-parent, swept-next, swept-all}
 use Rattle.spines.specs.Spine.{Head, top, down}
 use Rattle.spines.specs.work.Parents.{Child, HeadsAll}
 use Rattle.spines.specs.work.Sweeps.{LeavesAll, BestChildren, Follows}

@@ -9,11 +9,11 @@ use Rattle.arrays.specs.At.{at}
 use Rattle.table.specs.Refuse.{Only, passed}
 use Rattle.table.specs.Header.{nodesOf}
 use Rattle.table.proofs.Refusals.{unless-only}
-use Rattle.tree.specs.Net.{firstEnd, secondEnd}
-use Rattle.tree.specs.work.Net.{Net}
-use Rattle.tree.specs.work.Walked.{Walked}
-use Rattle.tree.proofs.Grown.{grown-tree}
-use Rattle.tree.proofs.NetWalk.{walk-grown, walk-rooted}
+use Rattle.net.specs.Net.{firstEnd, secondEnd}
+use Rattle.net.specs.work.Net.{Net}
+use Rattle.reach.specs.work.Walked.{Walked}
+use Rattle.reach.proofs.Grown.{grown-tree}
+use Rattle.reach.proofs.NetWalk.{walk-grown, walk-rooted}
 use Rattle.tree.proofs.Begins.{begins-net-only}
 use Rattle.spines.specs.Heads.{headsRefusal, Heads, ListsHeads, Headings}
 use Rattle.spines.specs.work.Parents.{HeadsAll}

@@ -7,16 +7,16 @@ use mathlib.Core.List.{List}
 use native.Mathlib.Omega.{arith}
 use native.Mathlib.Decide.{ℕ-discrete}
 use Rattle.arrays.specs.At.{at}
-use Rattle.tree.specs.Count.{Count}
-use Rattle.tree.specs.work.Forest.{Forest}
-use Rattle.tree.specs.work.Rooted.{Above, self, up, Passed, Rooted}
-use Rattle.tree.proofs.Counts.{count-unique, count-same}
-use Rattle.tree.proofs.OnePath.{unique}
-use Rattle.tree.proofs.Flip.{flip}
-use Rattle.tree.proofs.Rooted.{above-inv}
-use Rattle.tree.proofs.Above.{Tree, fits-up}
-use Rattle.tree.proofs.Climbs.{none-passed, root-above}
-use Rattle.tree.proofs.Route.{route}
+use Rattle.net.specs.Count.{Count}
+use Rattle.net.specs.work.Forest.{Forest}
+use Rattle.net.specs.work.Rooted.{Above, self, up, Passed, Rooted}
+use Rattle.net.proofs.Counts.{count-unique, count-same}
+use Rattle.net.proofs.OnePath.{unique}
+use Rattle.net.proofs.Flip.{flip}
+use Rattle.net.proofs.Rooted.{above-inv}
+use Rattle.net.proofs.Above.{Tree, fits-up}
+use Rattle.net.proofs.Climbs.{none-passed, root-above}
+use Rattle.net.proofs.Route.{route}
 use Rattle.spines.specs.Spine.{ChildOf, Leaf, Leaves}
 use Rattle.spines.specs.Hops.{Hops}
 use Rattle.spines.specs.FloorLog.{FloorLog}

@@ -5,11 +5,11 @@ use mathlib.Core.Logic.{_⊎_, inl, inr, _≢_}
 use mathlib.Core.List.{List}
 use native.Mathlib.Omega.{arith}
 use Rattle.arrays.specs.At.{at}
-use Rattle.tree.specs.work.Rooted.{Above, Passed}
+use Rattle.net.specs.work.Rooted.{Above, Passed}
 use Rattle.tree.specs.work.Meet.{Meets}
-use Rattle.tree.proofs.Rooted.{above-inv}
-use Rattle.tree.proofs.Above.{Tree, above-anti, fits-up}
-use Rattle.tree.proofs.Grown.{grown-tree}
+use Rattle.net.proofs.Rooted.{above-inv}
+use Rattle.net.proofs.Above.{Tree, above-anti, fits-up}
+use Rattle.reach.proofs.Grown.{grown-tree}
 use Rattle.spines.specs.Spine.{Head}
 use Rattle.spines.specs.work.Parents.{Child, Spined, HopsBy}
 use Rattle.spines.specs.work.Climbs.{One, HeadsClimbable, PassedHeads}

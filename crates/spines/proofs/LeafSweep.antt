@@ -8,12 +8,12 @@ use native.Mathlib.Decide.{ℕ-discrete}
 use lib.ListN.{set, length-set}
 use Rattle.arrays.specs.At.{at}
 use Rattle.arrays.specs.work.Filled.{Filled}
-use Rattle.tree.specs.Count.{Count}
-use Rattle.tree.specs.work.Rooted.{Above, self}
-use Rattle.tree.specs.work.Grown.{Grown}
-use Rattle.tree.proofs.Counts.{count-unique, count-same, count-none, count-one, count-some}
-use Rattle.tree.proofs.Above.{Tree, place-up}
-use Rattle.tree.proofs.Grown.{grown-tree, root-place}
+use Rattle.net.specs.Count.{Count}
+use Rattle.net.specs.work.Rooted.{Above, self}
+use Rattle.reach.specs.work.Grown.{Grown}
+use Rattle.net.proofs.Counts.{count-unique, count-same, count-none, count-one, count-some}
+use Rattle.net.proofs.Above.{Tree, place-up}
+use Rattle.reach.proofs.Grown.{grown-tree, root-place}
 use Rattle.spines.specs.Spine.{Leaf}
 use Rattle.spines.specs.work.Parents.{Child}
 use Rattle.spines.specs.work.Sweeps.{LeavesAll, Least}

@@ -5,10 +5,10 @@ use mathlib.Core.Path.{_≡_, refl}
 use mathlib.Core.Logic.{_⊎_, inl, inr, _≢_, ⊎-elim}
 use native.Mathlib.Omega.{arith}
 use native.Mathlib.Decide.{ℕ-discrete, decLt}
-use Rattle.tree.specs.work.Rooted.{Above, self, up}
-use Rattle.tree.proofs.Rooted.{above-inv}
-use Rattle.tree.proofs.Counts.{count-le, count-same, count-add, count-dec, count-some}
-use Rattle.tree.proofs.Above.{Tree, above-trans}
+use Rattle.net.specs.work.Rooted.{Above, self, up}
+use Rattle.net.proofs.Rooted.{above-inv}
+use Rattle.net.proofs.Counts.{count-le, count-same, count-add, count-dec, count-some}
+use Rattle.net.proofs.Above.{Tree, above-trans}
 use Rattle.spines.specs.Spine.{Leaf, LeafUnder, Leaves}
 use Rattle.spines.specs.work.Parents.{Child}
 use Rattle.spines.proofs.Below.{leaf-above, leaf-under, child-later, child-below, via-one}

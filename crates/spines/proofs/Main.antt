@@ -4,8 +4,8 @@ use mathlib.Core.Path.{_≡_, sym, ap}
 use mathlib.Core.Logic.{_⊎_, inl, inr}
 use native.Mathlib.Omega.{arith}
 use native.Mathlib.Decide.{ℕ-discrete, decLe}
-use Rattle.tree.proofs.Counts.{count-unique}
-use Rattle.tree.proofs.Above.{Tree}
+use Rattle.net.proofs.Counts.{count-unique}
+use Rattle.net.proofs.Above.{Tree}
 use Rattle.spines.specs.Spine.{Main}
 use Rattle.spines.specs.work.Parents.{Child}
 use Rattle.spines.proofs.Leaves.{child?, many, many-leaves}

@@ -10,8 +10,8 @@ use lib.ListN.{set, length-set}
 use lib.Seq.{getD-set-same, getD-set-other}
 use Rattle.arrays.specs.At.{at}
 use Rattle.arrays.specs.work.Filled.{Filled}
-use Rattle.tree.specs.work.Grown.{Grown}
-use Rattle.tree.proofs.Counts.{count-unique}
+use Rattle.reach.specs.work.Grown.{Grown}
+use Rattle.net.proofs.Counts.{count-unique}
 use Rattle.spines.specs.Spine.{Main}
 use Rattle.spines.specs.work.Parents.{Child}
 use Rattle.spines.specs.work.Sweeps.{LeavesAll, BestChild, BestChildren, MainTaken}

@@ -6,19 +6,19 @@ use mathlib.Core.Logic.{_⊎_, inl, inr, _≢_, ⊎-elim}
 use mathlib.Core.List.{List, [], _∷_, _++_}
 use native.Mathlib.Omega.{arith}
 use Rattle.arrays.specs.Members.{In}
-use Rattle.tree.specs.Graph.{Ends}
-use Rattle.tree.specs.work.Forest.{Forest}
-use Rattle.tree.specs.work.Rooted.{Above, self, up, Rooted}
+use Rattle.net.specs.Graph.{Ends}
+use Rattle.net.specs.work.Forest.{Forest}
+use Rattle.net.specs.work.Rooted.{Above, self, up, Rooted}
 use Rattle.arrays.proofs.Members.{distinct-snoc}
-use Rattle.tree.proofs.Rows.{ends-flip, other}
-use Rattle.tree.proofs.Joined.{walk-snoc}
+use Rattle.net.proofs.Rows.{ends-flip, other}
+use Rattle.net.proofs.Joined.{walk-snoc}
 use lib.ListN.{length, getD, length-append}
 use lib.Seq.{getD-append-add}
-use Rattle.tree.proofs.OnePath.{unique}
-use Rattle.tree.proofs.Rooted.{above-inv, owner}
-use Rattle.tree.proofs.Above.{Tree, above-trans, fits-up, place-up}
-use Rattle.tree.proofs.Climbs.{root-above}
-use Rattle.tree.proofs.Route.{Route, route}
+use Rattle.net.proofs.OnePath.{unique}
+use Rattle.net.proofs.Rooted.{above-inv, owner}
+use Rattle.net.proofs.Above.{Tree, above-trans, fits-up, place-up}
+use Rattle.net.proofs.Climbs.{root-above}
+use Rattle.net.proofs.Route.{Route, route}
 use Rattle.spines.specs.Spine.{ChildOf, Head}
 use Rattle.spines.specs.work.Parents.{Child}
 use Rattle.spines.proofs.Head.{head-only}

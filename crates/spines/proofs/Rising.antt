@@ -7,11 +7,11 @@ use native.Mathlib.Omega.{arith}
 use native.Mathlib.Numerals.{add-one}
 use native.Mathlib.Decide.{ℕ-discrete}
 use native.Mathlib.Nat.{pow-suc}
-use Rattle.tree.specs.Count.{Count}
-use Rattle.tree.specs.work.Rooted.{Above, self, up, Passed}
-use Rattle.tree.proofs.Counts.{count-same, count-none, count-one, count-add}
-use Rattle.tree.proofs.Above.{Tree, above-trans, above-chain, fits-up, place-up, place-less}
-use Rattle.tree.proofs.Climbs.{none-passed, passed-more, passed-new, passed-inv}
+use Rattle.net.specs.Count.{Count}
+use Rattle.net.specs.work.Rooted.{Above, self, up, Passed}
+use Rattle.net.proofs.Counts.{count-same, count-none, count-one, count-add}
+use Rattle.net.proofs.Above.{Tree, above-trans, above-chain, fits-up, place-up, place-less}
+use Rattle.net.proofs.Climbs.{none-passed, passed-more, passed-new, passed-inv}
 use Rattle.spines.specs.Spine.{Head}
 use Rattle.spines.specs.FloorLog.{FloorLog}
 use Rattle.spines.specs.work.Parents.{Child}

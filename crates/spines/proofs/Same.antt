@@ -1,7 +1,7 @@
 -- Where the children are the same, so are the leaves, the spines, their heads and what a path touches.
 use Prim.Native.Nat.{ℕ}
 use mathlib.Core.List.{List}
-use Rattle.tree.proofs.Counts.{count-same}
+use Rattle.net.proofs.Counts.{count-same}
 use Rattle.spines.specs.Spine.{Under, here, step, Leaf, LeafUnder, Leaves, Main, Head, top, down}
 use Rattle.spines.specs.Hops.{Touched}
 

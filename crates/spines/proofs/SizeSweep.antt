@@ -8,11 +8,11 @@ use native.Mathlib.Decide.{ℕ-discrete}
 use lib.ListN.{set, length-set}
 use Rattle.arrays.specs.At.{at}
 use Rattle.arrays.specs.work.Filled.{Filled}
-use Rattle.tree.specs.Count.{Count}
-use Rattle.tree.specs.work.Rooted.{self}
-use Rattle.tree.specs.work.Grown.{Grown}
-use Rattle.tree.proofs.Counts.{count-same, count-one, count-add, count-below}
-use Rattle.tree.proofs.Grown.{root-place}
+use Rattle.net.specs.Count.{Count}
+use Rattle.net.specs.work.Rooted.{self}
+use Rattle.reach.specs.work.Grown.{Grown}
+use Rattle.net.proofs.Counts.{count-same, count-one, count-add, count-below}
+use Rattle.reach.proofs.Grown.{root-place}
 use Rattle.spines.specs.work.Parents.{SizesAll}
 use Rattle.spines.proofs.Backward.{Bel, Given, part-all, given-none, given-next, given-all, sum-fits}
 

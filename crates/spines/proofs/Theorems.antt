@@ -3,10 +3,10 @@
 use Prim.Native.Nat.{ℕ, _+_, _-_, _*_, _≤_, _<_}
 use mathlib.Core.Path.{_≡_}
 use mathlib.Core.List.{List}
-use Rattle.tree.specs.Count.{Count}
-use Rattle.tree.specs.Net.{firstEnd, secondEnd}
-use Rattle.tree.specs.work.Net.{Net}
-use Rattle.tree.proofs.Hung.{net-hangs}
+use Rattle.net.specs.Count.{Count}
+use Rattle.net.specs.Net.{firstEnd, secondEnd}
+use Rattle.net.specs.work.Net.{Net}
+use Rattle.net.proofs.Hung.{net-hangs}
 use Rattle.spines.specs.Spine.{ChildOf, Leaf, Leaves}
 use Rattle.spines.specs.Hops.{Hops}
 use Rattle.spines.specs.FloorLog.{FloorLog}

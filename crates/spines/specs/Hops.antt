@@ -2,8 +2,8 @@
 use Prim.Native.Nat.{ℕ}
 use mathlib.Core.List.{List, _∷_}
 use Rattle.arrays.specs.Members.{In, Distinct}
-use Rattle.tree.specs.Graph.{First, Walk}
-use Rattle.tree.specs.Count.{Count}
+use Rattle.net.specs.Graph.{First, Walk}
+use Rattle.net.specs.Count.{Count}
 use Rattle.spines.specs.Spine.{ChildOf, Head}
 
 -- a spine is known by its head: h heads one that touches a node of ns

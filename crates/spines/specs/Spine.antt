@@ -3,8 +3,8 @@ use Prim.Native.Nat.{ℕ, _≤_, _<_}
 use mathlib.Core.Path.{_≡_}
 use mathlib.Core.List.{List, _∷_}
 use Rattle.arrays.specs.Members.{In, Distinct}
-use Rattle.tree.specs.Graph.{First, Ends, Walk}
-use Rattle.tree.specs.Count.{Count}
+use Rattle.net.specs.Graph.{First, Ends, Walk}
+use Rattle.net.specs.Count.{Count}
 
 -- c is a child of p in a net of k rows and n nodes: the simple path from node 0 leads to p, and one row on to a node
 -- that it has not met

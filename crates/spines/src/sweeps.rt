@@ -1,6 +1,6 @@
 // Sweeps over the walk's arrays: the leaves below each node, its main child, its head.
 ghost use Prim.Native.Nat.{_≤_, _<_};
-ghost use Rattle.tree.specs.work.Grown.{Grown};
+ghost use Rattle.reach.specs.work.Grown.{Grown};
 ghost use Rattle.spines.specs.work.Parents.{HeadsAll};
 ghost use Rattle.spines.specs.work.Sweeps.{LeavesAll, Least, BestChildren, MainTaken, Follows};
 

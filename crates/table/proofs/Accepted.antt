@@ -1,11 +1,10 @@
 -- What a table that passed has, for this crate and those above: an opened header's facts, an accepted table's facts,
 -- and how an operation that begins with `examine` goes on where nothing is refused.
 use mathlib.Core.Path.{_≡_, refl, sym, ap, _∙_}
-use mathlib.Core.List.{List, [], _∷_}
+use mathlib.Core.List.{List}
 use Prim.Native.Nat.{ℕ, _+_, _-_, _*_, _≤_, _<_}
 use native.Mathlib.Omega.{arith}
-use lib.ListN.{length, take}
-use native.Mathlib.Nat.{sub-zero}
+use lib.ListN.{length}
 use Rattle.table.specs.Refuse.{refused, passed, fine, Only}
 use Rattle.arrays.specs.At.{at}
 use Rattle.table.specs.Signed.{InRange}
@@ -225,11 +224,3 @@ refused-header {A} refuse s w p = header-map handed openingRefusal s (λ h e. ab
     handed : Opening → A
     handed (Opened n b) = refuse 0 0
     handed (Refused v) = refuse (v .number) (v .row)
-
--- all of a list is its part from 0 to its end
-pub take-all : (s : List ℕ) → take (length s - 0) s ≡ s
-take-all s = rw sub-zero (all s)
-  where
-    all : (s : List ℕ) → take (length s) s ≡ s
-    all [] = refl
-    all (x ∷ xs) = ap (λ (l : List ℕ). x ∷ l) (all xs)

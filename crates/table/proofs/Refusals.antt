@@ -1,6 +1,6 @@
 -- Laws of the forms of refusal: each allows one outcome where its rest does; an outcome that is not the refusal has
--- passed; a refusal stays one when the outcome's type changes, by a function
--- that takes refusals to refusals, and when the good condition is said in other words.
+-- passed; a refusal stays one when the outcome's type changes, by a function that takes refusals to refusals, and when
+-- the good condition is said in other words.
 use mathlib.Core.Path.{_≡_, refl}
 use Prim.Native.Nat.{ℕ, _<_}
 use native.Mathlib.Decide.{decLt}

@@ -8,11 +8,11 @@ use lib.ListN.{length}
 use Rattle.arrays.specs.At.{at}
 use Rattle.arrays.specs.Members.{In, past, Distinct}
 use Rattle.arrays.specs.Members as members
-use Rattle.tree.specs.Graph.{First, Walk, stop, go, Joined, RingAt}
-use Rattle.tree.specs.Ring.{RingRows, closed}
-use Rattle.tree.specs.work.Walked.{Reached, WalkedFrom}
+use Rattle.net.specs.Graph.{First, Walk, stop, go, Joined, RingAt}
+use Rattle.net.specs.Ring.{RingRows, closed}
+use Rattle.reach.specs.work.Walked.{Reached, WalkedFrom}
 use Rattle.arrays.proofs.Members.{not-nil, in-one}
-use Rattle.tree.proofs.Chains.{half-ends}
+use Rattle.reach.proofs.Chained.{half-ends}
 
 -- the climb from b stands at x, and the rows between are g - 1: no node on the way stands earlier in the order than x
 pub record Climbed (us vs : ℕ → ℕ) (rows m : ℕ) (order place : List ℕ) (b x g : ℕ) : Type 0 where

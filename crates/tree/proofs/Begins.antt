@@ -1,6 +1,7 @@
 -- Acceptance: from the ring test and the walk to refusals 11 and 12; what an accepted table has; how an operation that
 -- begins with 1 to 12 hands a refusal on or goes on, seen through a function or said otherwise; that two such promises
--- give equal outcomes where what follows does, so that each allows one and refuses what acceptance does. What 1 to 12 are is taken apart here, in Outcomes and in Eleven, and in no crate above.
+-- give equal outcomes where what follows does, so that each allows one and refuses what acceptance does. What 1 to 12
+-- are is taken apart here, in Outcomes and in Eleven, and in no crate above.
 use Prim.Native.Nat.{ℕ, _-_, _≤_, _<_}
 use mathlib.Core.Path.{_≡_, refl, sym, ap, _∙_}
 use mathlib.Core.Logic.{_⊎_, inl, inr}
@@ -16,19 +17,19 @@ use Rattle.table.proofs.Refusals.{past, past-rows, settled, unless-only, unless
 use Rattle.table.proofs.Accepted.{GoodTable, accepted, tested-past, tested-map, tested-rest}
 use Rattle.table.proofs.Accepted as table
 use Rattle.table.proofs.Only.{tested-only}
-use Rattle.tree.specs.work.Forest.{Forest}
-use Rattle.tree.specs.Net.{firstEnd, secondEnd, lengthOf, weightOf, Whole}
-use Rattle.tree.specs.work.Net.{Net}
-use Rattle.tree.specs.Ring.{RingRows}
+use Rattle.net.specs.work.Forest.{Forest}
+use Rattle.net.specs.Net.{firstEnd, secondEnd, lengthOf, weightOf, Whole}
+use Rattle.net.specs.work.Net.{Net}
+use Rattle.net.specs.Ring.{RingRows}
 use Rattle.tree.specs.Accept.{Rings, Begins, acceptanceRefusal, Accepts}
-use Rattle.tree.specs.work.Rows.{Readable, Fitting, Closing}
-use Rattle.tree.specs.work.Union.{FirstRing}
-use Rattle.tree.specs.work.Queue.{Reaches}
+use Rattle.net.specs.work.Rows.{Readable, Fitting, Closing}
+use Rattle.ring.specs.work.Union.{FirstRing}
+use Rattle.reach.specs.work.Queue.{Reaches}
 use Rattle.tree.specs.declared.Refusal.{Refusal}
 use Rattle.tree.specs.declared.Acceptance.{Acceptance}
 use Rattle.tree.specs.declared.Acceptance.the-variants.{Accepted, Refused}
-use Rattle.tree.proofs.Grown.{reached-all, all-joined}
-use Rattle.tree.proofs.RingRows.{row-open, rows-open, open-rows, rings-only, rings-settled}
+use Rattle.reach.proofs.Grown.{reached-all, all-joined}
+use Rattle.net.proofs.RingRows.{row-open, rows-open, open-rows, rings-only, rings-settled}
 
 -- an accepted net's two numbers, and that it is no refusal
 abbrev nodesIn : Acceptance → ℕ

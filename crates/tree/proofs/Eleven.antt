@@ -12,19 +12,19 @@ use Rattle.table.specs.Refuse.{refused, passed, bad, fine}
 use Rattle.table.specs.Header.{nodesOf, boundOf}
 use Rattle.table.proofs.Accepted.{GoodTable, accepted, passed-on, tested-past}
 use Rattle.arrays.specs.Members.{In}
-use Rattle.tree.specs.Graph.{Ends, RingAt, Ring}
-use Rattle.tree.specs.work.Forest.{Forest}
-use Rattle.tree.specs.Net.{firstEnd, secondEnd}
-use Rattle.tree.specs.Ring.{RingRows}
+use Rattle.net.specs.Graph.{Ends, RingAt, Ring}
+use Rattle.net.specs.work.Forest.{Forest}
+use Rattle.net.specs.Net.{firstEnd, secondEnd}
+use Rattle.net.specs.Ring.{RingRows}
 use Rattle.tree.specs.Accept.{acceptanceRefusal, Rings, Accepts}
 use Rattle.tree.specs.work.Why.{whyOf}
 use Rattle.tree.specs.declared.Acceptance.{Acceptance}
 use Rattle.tree.specs.declared.Acceptance.the-variants.{Accepted}
-use Rattle.tree.proofs.Rows.{Closes}
-use Rattle.tree.proofs.Labels.{joined?}
-use Rattle.tree.proofs.RingExactly.{ring-closes, closes-ring}
-use Rattle.tree.proofs.RingRows.{rows-open, row-closed, row-number, most-rows, ring-of, two-rows, repeated}
-use Rattle.tree.proofs.OneRing.{one-ring}
+use Rattle.net.proofs.Rows.{Closes}
+use Rattle.net.proofs.Labels.{joined?}
+use Rattle.net.proofs.RingExactly.{ring-closes, closes-ring}
+use Rattle.net.proofs.RingRows.{rows-open, row-closed, row-number, most-rows, ring-of, two-rows, repeated}
+use Rattle.net.proofs.OneRing.{one-ring}
 use Rattle.tree.proofs.Begins.{rings-bad}
 
 ends-differ : (s : List ℕ) → GoodTable s → (r : ℕ) → r < nodesOf s - 1 → firstEnd s r ≢ secondEnd s r

@@ -1,36 +1,7 @@
--- Laws of this crate, by topic, for itself and for the crates above.
-pub mod Rows
-pub mod Joined
-pub mod Bridge
-pub mod OnePath
-pub mod Erase
-pub mod RingExactly
-pub mod After
-pub mod RingRows
+-- Laws of acceptance, by topic, for this crate and those above.
 pub mod Outcomes
-pub mod Labels
-pub mod Counts
-pub mod Rooted
-pub mod Values
-pub mod Net
-pub mod Union
-pub mod Chains
-pub mod Queue
-pub mod Walked
 pub mod Around
-pub mod WalkOnly
-pub mod Above
-pub mod Grown
-pub mod Sweep
 pub mod Begins
-pub mod NetWalk
 pub mod Eleven
 pub mod Theorems
-pub mod Climbs
-pub mod Route
-pub mod Far
 pub mod Meeting
-pub mod Short
-pub mod Hung
-pub mod Flip
-pub mod OneRing

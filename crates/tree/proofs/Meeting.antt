@@ -7,12 +7,12 @@ use mathlib.Core.List.{List}
 use native.Mathlib.Omega.{arith}
 use native.Mathlib.Decide.{decLt}
 use Rattle.arrays.specs.At.{at}
-use Rattle.tree.specs.work.Rooted.{Above, self, up}
-use Rattle.tree.specs.work.Grown.{Grown}
+use Rattle.net.specs.work.Rooted.{Above, self, up}
+use Rattle.reach.specs.work.Grown.{Grown}
 use Rattle.tree.specs.work.Meet.{Meets, Hung}
-use Rattle.tree.proofs.Rooted.{above-inv}
-use Rattle.tree.proofs.Above.{above-trans}
-use Rattle.tree.proofs.Grown.{same-place, root-place}
+use Rattle.net.proofs.Rooted.{above-inv}
+use Rattle.net.proofs.Above.{above-trans}
+use Rattle.reach.proofs.Grown.{same-place, root-place}
 
 pub grown-hung : {n : ℕ} {parent order place : List ℕ} → Grown n parent order place → Hung n parent place
 grown-hung g =

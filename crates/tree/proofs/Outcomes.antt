@@ -8,7 +8,7 @@ use mathlib.Core.List.{List}
 use native.Mathlib.Omega.{arith}
 use Rattle.table.specs.Refuse.{Unless, refused, passed, FirstBad, bad, fine}
 use Rattle.tree.specs.Accept.{Begins}
-use Rattle.tree.proofs.RingRows.{most-rows}
+use Rattle.net.proofs.RingRows.{most-rows}
 
 -- what the three numbers of such a refusal are
 pub record Told (k r g : ℕ) : Type 0 where

@@ -9,22 +9,22 @@ use Rattle.arrays.specs.At.{at}
 use Rattle.table.specs.Header.{nodesOf}
 use Rattle.table.proofs.Accepted.{GoodTable}
 use Rattle.arrays.specs.Members.{In, Distinct}
-use Rattle.tree.specs.Graph.{First, Ends, Walk, Ring}
-use Rattle.tree.specs.Path.{Path}
-use Rattle.tree.specs.Net.{firstEnd, secondEnd}
-use Rattle.tree.specs.work.Net.{Net}
+use Rattle.net.specs.Graph.{First, Ends, Walk, Ring}
+use Rattle.net.specs.Path.{Path}
+use Rattle.net.specs.Net.{firstEnd, secondEnd}
+use Rattle.net.specs.work.Net.{Net}
 use Rattle.tree.specs.Accept.{acceptanceRefusal, Begins, Accepts}
 use Rattle.tree.specs.work.Why.{whyOf}
 use Rattle.tree.specs.declared.Acceptance.{Acceptance}
-use Rattle.tree.specs.work.Rooted.{Above}
-use Rattle.tree.specs.work.Walked.{Walked}
-use Rattle.tree.proofs.RingExactly.{forest-iff}
-use Rattle.tree.proofs.OnePath.{unique}
+use Rattle.net.specs.work.Rooted.{Above}
+use Rattle.reach.specs.work.Walked.{Walked}
+use Rattle.net.proofs.RingExactly.{forest-iff}
+use Rattle.net.proofs.OnePath.{unique}
 use Rattle.tree.proofs.Outcomes.{by-beginning}
 use Rattle.tree.proofs.Begins as begins
 use Rattle.tree.proofs.Eleven.{ring-refused, refused-ring}
 use Rattle.tree.proofs.Eleven as eleven
-use Rattle.tree.proofs.NetWalk.{net-simple, climb-path}
+use Rattle.reach.proofs.NetWalk.{net-simple, climb-path}
 
 -- Demand 2. A table with good header, size and rows is refused by 11 exactly if a ring is in it.
 pub ring-exactly : (s : List ℕ) → GoodTable s

@@ -7,8 +7,8 @@ use mathlib.Core.List.{List}
 use Rattle.table.specs.Refuse.{Unless, FirstBad}
 use Rattle.table.specs.Header.{nodesOf, boundOf}
 use Rattle.table.specs.Examine.{Tested}
-use Rattle.tree.specs.Ring.{RingRows}
-use Rattle.tree.specs.Net.{firstEnd, secondEnd, Whole}
+use Rattle.net.specs.Ring.{RingRows}
+use Rattle.net.specs.Net.{firstEnd, secondEnd, Whole}
 use Rattle.tree.specs.declared.Acceptance.{Acceptance}
 use Rattle.tree.specs.declared.Acceptance.the-variants.{Accepted, Refused}
 

@@ -1,18 +1,15 @@
-// What a net is: acceptance by refusals 1 to 12, and the walk from the root.
-mod ends;
-mod reach;
-mod ring;
+// Acceptance, refusals 1 to 12 in order; the walk of an accepted net; and where two climbs to its root meet.
 mod round;
 mod two_climbs;
 
 pub use two_climbs::meet;
 ghost use mathlib.Core.Path.{_≡_};
 ghost use Prim.Native.Nat.{_-_};
-ghost use Rattle.tree.specs.Net.{firstEnd, secondEnd};
-ghost use Rattle.tree.specs.work.Net.{Net};
+ghost use Rattle.net.specs.Net.{firstEnd, secondEnd};
+ghost use Rattle.net.specs.work.Net.{Net};
 ghost use Rattle.tree.specs.Accept.{acceptanceRefusal, Rings, Accepts};
-ghost use Rattle.tree.specs.work.Walked.{Walked};
-ghost use Rattle.tree.specs.work.Rows.{Fitting};
+ghost use Rattle.reach.specs.work.Walked.{Walked};
+ghost use Rattle.net.specs.work.Rows.{Fitting};
 use table::Opening;
 
 // What is refused, by the paper's number; the row it names, 0 where none is named; and how many rows the ring has that
@@ -47,8 +44,8 @@ pub fn accept(s: &[u8]) -> Acceptance
 // Tests 11 and 12, of a table that has passed the others.
 fn rings(s: &[u8], nodes: u16, bound: u32) -> Acceptance
     requires { ⌜ Fitting (now s) nodes ⌝ }
-    ensures { λ r. ⌜ Rings Acceptance acceptanceRefusal (now (s .entry)) nodes (λ x. x ≡ Acceptance.Accepted nodes bound)
-        r ⌝ }
+    ensures { λ r. ⌜ Rings Acceptance acceptanceRefusal (now (s .entry)) nodes
+        (λ x. x ≡ Acceptance.Accepted nodes bound) r ⌝ }
 {
     let n = arrays::wide(nodes);
     let rows = n - 1;

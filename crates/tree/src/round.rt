@@ -1,10 +1,10 @@
 // How many rows the ring has that a row closes. Asked of the row of refusal 11 alone.
-ghost use Rattle.tree.specs.Net.{firstEnd, secondEnd};
-ghost use Rattle.tree.specs.Ring.{RingRows};
-ghost use Rattle.tree.specs.work.Rows.{Closing};
-use crate::ends::first_end;
-use crate::ends::second_end;
-use crate::reach::walk_from;
+ghost use Rattle.net.specs.Net.{firstEnd, secondEnd};
+ghost use Rattle.net.specs.Ring.{RingRows};
+ghost use Rattle.net.specs.work.Rows.{Closing};
+use net::first_end;
+use net::second_end;
+use reach::walk_from;
 
 // The walk over the rows before r, from its first end; then the climb from its second end to where the order begins.
 // Row r itself is one.

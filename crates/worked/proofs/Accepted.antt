@@ -11,11 +11,11 @@ use Rattle.arrays.specs.At.{at}
 use Rattle.table.specs.Header.{versionOf, nodesOf}
 use Rattle.table.specs.Row.{rowAt}
 use Rattle.table.proofs.Accepted.{Headed, Good, GoodTable, good-table, good-number}
-use Rattle.tree.specs.work.Forest.{Forest}
-use Rattle.tree.specs.Net.{firstEnd, secondEnd, Whole}
+use Rattle.net.specs.work.Forest.{Forest}
+use Rattle.net.specs.Net.{firstEnd, secondEnd, Whole}
 use Rattle.tree.specs.Accept.{Begins}
 use Rattle.tree.proofs.Begins.{sound-on}
-use Rattle.tree.proofs.Labels.{label, label-joined, grows, grows-forest}
+use Rattle.net.proofs.Labels.{label, label-joined, grows, grows-forest}
 use Rattle.worked.proofs.Tests.{every, every-passed, below, below-all}
 
 module _ (s : List ℕ) where

@@ -12,14 +12,14 @@ use Rattle.arrays.specs.At.{at}
 use Rattle.table.specs.Refuse.{passed, refused}
 use Rattle.table.specs.Header.{nodesOf, boundOf}
 use Rattle.arrays.specs.Members.{In}
-use Rattle.tree.specs.Path.{Sum}
-use Rattle.tree.specs.Net.{lengthOf}
+use Rattle.net.specs.Path.{Sum}
+use Rattle.net.specs.Net.{lengthOf}
 use Rattle.tree.specs.declared.Refusal.{Refusal}
-use Rattle.tree.proofs.Labels.{both}
-use Rattle.marks.specs.Change.{changeRefusal, Changes}
-use Rattle.marks.specs.declared.Change.{Change}
-use Rattle.marks.specs.declared.Change.the-variants.{Changed, Refused}
-use Rattle.marks.specs.Claim.{Between, InReach, Taken, Ended, Claims}
+use Rattle.net.proofs.Labels.{both}
+use Rattle.changes.specs.Change.{changeRefusal, Changes}
+use Rattle.changes.specs.declared.Change.{Change}
+use Rattle.changes.specs.declared.Change.the-variants.{Changed, Refused}
+use Rattle.changes.specs.Claim.{Between, InReach, Taken, Ended, Claims}
 use Rattle.worked.proofs.Tests.{
   and,
   cond-yes,

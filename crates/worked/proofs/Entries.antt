@@ -10,7 +10,7 @@ use lib.IntN.{ℤ, pos, negsuc}
 use lib.Signed.{ltZ, _≤ℤ_, leZ-yes, ltZ-yes, ≤ℤ-refl, <ℤ-irrefl}
 use Rattle.arrays.specs.Members.{In, at, past}
 use Rattle.pages.specs.Listing.{Entry, After, first, second, Rising, none, more}
-use Rattle.tree.proofs.Labels.{both}
+use Rattle.net.proofs.Labels.{both}
 use Rattle.heaviest.specs.Heaviest.{AtLeast}
 use Rattle.worked.proofs.Tests.{
   and,

@@ -11,7 +11,7 @@ use lib.ListN.{length}
 use Rattle.arrays.specs.At.{at}
 use Rattle.table.specs.Refuse.{passed}
 use Rattle.table.specs.Header.{nodesOf}
-use Rattle.tree.specs.Net.{firstEnd, secondEnd}
+use Rattle.net.specs.Net.{firstEnd, secondEnd}
 use Rattle.spines.specs.Spine.{ChildOf, Leaf}
 use Rattle.spines.specs.Heads.{HeadOf, headsRefusal, Headings}
 use Rattle.spines.specs.declared.HeadsAnswer.the-variants.{Written}

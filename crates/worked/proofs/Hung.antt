@@ -8,12 +8,12 @@ use native.Mathlib.Omega.{arith}
 use native.Mathlib.Decide.{decLt}
 use lib.Dec.{T, eqb, ltb, eqb→eq, ltb→lt}
 use Rattle.table.specs.Header.{nodesOf}
-use Rattle.tree.specs.Graph.{Ends}
-use Rattle.tree.specs.Net.{firstEnd, secondEnd}
-use Rattle.tree.specs.work.Rooted.{Rooted}
-use Rattle.tree.proofs.Above.{Tree}
-use Rattle.tree.proofs.Joined.{joined-trans, joined-sym}
-use Rattle.tree.proofs.Labels.{both}
+use Rattle.net.specs.Graph.{Ends}
+use Rattle.net.specs.Net.{firstEnd, secondEnd}
+use Rattle.net.specs.work.Rooted.{Rooted}
+use Rattle.net.proofs.Above.{Tree}
+use Rattle.net.proofs.Joined.{joined-trans, joined-sym}
+use Rattle.net.proofs.Labels.{both}
 use Rattle.spines.specs.Spine.{Head}
 use Rattle.spines.specs.Heads.{HeadOf}
 use Rattle.spines.specs.work.Parents.{Child}

@@ -10,10 +10,10 @@ use lib.ListN.{length}
 use Rattle.table.specs.Refuse.{passed}
 use Rattle.table.specs.Header.{nodesOf}
 use Rattle.arrays.specs.Members.{In, at, past}
-use Rattle.tree.specs.Net.{firstEnd, secondEnd, lengthOf}
-use Rattle.tree.specs.Path.{Sum}
-use Rattle.tree.specs.Value.{Total}
-use Rattle.tree.specs.Count.{Count}
+use Rattle.net.specs.Net.{firstEnd, secondEnd, lengthOf}
+use Rattle.net.specs.Path.{Sum}
+use Rattle.net.specs.Value.{Total}
+use Rattle.net.specs.Count.{Count}
 use Rattle.arrays.proofs.Members.{not-nil}
 use Rattle.marks.specs.Weighs.{weightUnder}
 use Rattle.spines.specs.Spine.{ChildOf}

@@ -8,10 +8,10 @@ use mathlib.Core.List.{List, [], _∷_}
 use lib.Dec.{T, eqb, ltb, eqb→eq, ltb→lt, T-not}
 use lib.IntN.{ℤ}
 use Rattle.table.specs.Header.{nodesOf}
-use Rattle.tree.specs.Net.{firstEnd, secondEnd, lengthOf}
-use Rattle.tree.specs.Path.{Sum}
-use Rattle.tree.specs.Value.{Total}
-use Rattle.tree.proofs.Values.{length-only, weight-only}
+use Rattle.net.specs.Net.{firstEnd, secondEnd, lengthOf}
+use Rattle.net.specs.Path.{Sum}
+use Rattle.net.specs.Value.{Total}
+use Rattle.net.proofs.Values.{length-only, weight-only}
 use Rattle.marks.specs.Weighs.{weightUnder}
 use Rattle.pages.specs.Listing.{Entry, entry}
 use Rattle.pages.specs.Passes.{Passes}

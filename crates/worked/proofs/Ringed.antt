@@ -8,14 +8,14 @@ use native.Mathlib.Omega.{arith}
 use lib.Dec.{T, eqb, ltb, eqb→eq, ltb→lt}
 use lib.ListN.{length}
 use Rattle.table.specs.Header.{nodesOf}
-use Rattle.tree.specs.Graph.{First, Walk, stop, go}
-use Rattle.tree.specs.Net.{firstEnd, secondEnd}
-use Rattle.tree.specs.Ring.{closed}
+use Rattle.net.specs.Graph.{First, Walk, stop, go}
+use Rattle.net.specs.Net.{firstEnd, secondEnd}
+use Rattle.net.specs.Ring.{closed}
 use Rattle.tree.specs.Accept.{acceptanceRefusal, Accepts}
 use Rattle.tree.specs.declared.Refusal.{Refusal}
 use Rattle.tree.specs.declared.Acceptance.the-variants.{Refused}
 use Rattle.tree.proofs.Eleven.{first-refused}
-use Rattle.tree.proofs.Labels.{both, grows, grows-forest}
+use Rattle.net.proofs.Labels.{both, grows, grows-forest}
 use Rattle.worked.proofs.Tests.{every, every-passed, throughout}
 use Rattle.worked.proofs.Accepted.{good?, good}
 use Rattle.worked.proofs.Ways.{met, path?, is-walk}

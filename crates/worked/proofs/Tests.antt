@@ -11,7 +11,7 @@ use native.Mathlib.Decide.{ℕ-discrete}
 use lib.Dec.{T, eqb, eqb-refl, eqb→eq, T-not}
 use lib.IntN.{ℤ, pos, negsuc}
 use Rattle.arrays.specs.Members.{In, at, past, Distinct}
-use Rattle.tree.proofs.Labels.{both}
+use Rattle.net.proofs.Labels.{both}
 
 pub and : (a b : Bool) → T a → T b → T (a && b)
 and true true s t = tt

@@ -8,11 +8,11 @@ use mathlib.Core.List.{List, [], _∷_}
 use lib.Dec.{T, eqb, ltb, eqb→eq, ltb→lt}
 use Rattle.table.specs.Header.{nodesOf}
 use Rattle.arrays.specs.Members.{Distinct}
-use Rattle.tree.specs.Graph.{First, Ends, Walk, stop, go}
-use Rattle.tree.specs.Path.{Path}
-use Rattle.tree.specs.Net.{firstEnd, secondEnd}
-use Rattle.tree.proofs.OnePath.{unique}
-use Rattle.tree.proofs.Labels.{both}
+use Rattle.net.specs.Graph.{First, Ends, Walk, stop, go}
+use Rattle.net.specs.Path.{Path}
+use Rattle.net.specs.Net.{firstEnd, secondEnd}
+use Rattle.net.proofs.OnePath.{unique}
+use Rattle.net.proofs.Labels.{both}
 use Rattle.worked.proofs.Tests.{no-repeat, no-repeat-distinct}
 use Rattle.worked.proofs.Accepted.{accepted?, forest}
 

@@ -6,10 +6,10 @@ use mathlib.Core.List.{List, [], _∷_}
 use native.Mathlib.Decide.{ℕ-discrete, decLe, decLt}
 use lib.Dec.{T}
 use lib.ListN.{getD}
-use Rattle.tree.specs.Net.{firstEnd, secondEnd, lengthOf, weightOf}
-use Rattle.tree.specs.Value.{Total}
-use Rattle.tree.proofs.Counts.{count-dec}
-use Rattle.tree.proofs.Labels.{both, label, relabel, grows}
+use Rattle.net.specs.Net.{firstEnd, secondEnd, lengthOf, weightOf}
+use Rattle.net.specs.Value.{Total}
+use Rattle.net.proofs.Counts.{count-dec}
+use Rattle.net.proofs.Labels.{both, label, relabel, grows}
 use Rattle.spines.proofs.Leaves.{some?, above?, child?, leaf?, leaf-under?, leaves-some, many}
 use Rattle.spines.proofs.Main.{best, main-some, main?}
 use Rattle.spines.proofs.Head.{head-some}
@@ -18,7 +18,7 @@ use Rattle.pages.specs.Bytes.{bytes, row, rows}
 use Rattle.pages.specs.Listing.{entry}
 use Rattle.tree.specs.declared.Acceptance.the-variants as acceptance
 use Rattle.spines.specs.declared.HeadsAnswer.the-variants as written
-use Rattle.marks.specs.declared.Change.the-variants as change
+use Rattle.changes.specs.declared.Change.the-variants as change
 use Rattle.heaviest.specs.declared.HeaviestAnswer.the-variants as run
 use Rattle.listing.specs.declared.Listed.the-variants as listed
 use Rattle.pair.specs.declared.PairAnswer.the-variants as path
@@ -62,7 +62,8 @@ check (accept s (acceptance.Accepted n b)) = false
 check (accept s (acceptance.Refused why)) = ringed? way s why
 check (heaviest s marks (run.Between a b l w)) = found? way s marks (entry a b l w)
 check (heaviest s marks (run.Refused why)) = none? way s marks why
-check (listing s marks floor low high lent (listed.Rows k l, after)) = listing? way s marks floor low high lent k l after
+check (listing s marks floor low high lent (listed.Rows k l, after)) =
+    listing? way s marks floor low high lent k l after
 check (listing s marks floor low high lent (listed.Refused why, after)) = false
 check (heads s lent (written.Written, after)) = heads? up by s lent after
 check (heads s lent (written.Refused why, after)) = false
@@ -100,9 +101,10 @@ all-hold (c ∷ l) t = let a = both (check c) (check-all l) t in (check-holds c 
 
 -- Every starred case holds.
 pub cases-hold : All cases
-unfolding head-some main? main-some best many count-dec leaves-some leaf-under? leaf? child? above? some? decLt decLe up
-    by heads? leaves? pair? hangs? par headAt once heads-of check-all check cases net5 n5 unmarked held marked crossed
-    lent three way ways found? none? claimed? refused? frees throughout listing? seconds firsts bytes row rows rising? has-entry
-    same-entry same good? accepted? ringed? ways? path? leads met other wanted? all-pairs at-least? after? every below
-    has no-repeat label relabel grows ℕ-discrete firstEnd secondEnd lengthOf weightOf weightUnder weighs Total
+unfolding head-some main? main-some best many count-dec leaves-some leaf-under? leaf? child? above? some? decLt
+    decLe up by heads? leaves? pair? hangs? par headAt once heads-of check-all check cases net5 n5 unmarked held
+    marked crossed lent three way ways found? none? claimed? refused? frees throughout listing? seconds firsts bytes
+    row rows rising? has-entry same-entry same good? accepted? ringed? ways? path? leads met other wanted? all-pairs
+    at-least? after? every below has no-repeat label relabel grows ℕ-discrete firstEnd secondEnd lengthOf weightOf
+    weightUnder weighs Total
 cases-hold = all-hold cases tt

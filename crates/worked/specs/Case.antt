@@ -5,14 +5,14 @@ use mathlib.Core.List.{List, [], _∷_}
 use lib.IntN.{ℤ}
 use Rattle.table.specs.Header.{nodesOf}
 use Rattle.arrays.specs.Members.{In}
-use Rattle.tree.specs.Net.{firstEnd, secondEnd}
+use Rattle.net.specs.Net.{firstEnd, secondEnd}
 use Rattle.tree.specs.Accept.{Accepts}
 use Rattle.tree.specs.declared.Acceptance.{Acceptance}
 use Rattle.spines.specs.Spine.{ChildOf, Leaf}
 use Rattle.spines.specs.Heads.{Headings}
 use Rattle.spines.specs.declared.HeadsAnswer.{HeadsAnswer}
-use Rattle.marks.specs.declared.Change.{Change}
-use Rattle.marks.specs.Claim.{Claims}
+use Rattle.changes.specs.declared.Change.{Change}
+use Rattle.changes.specs.Claim.{Claims}
 use Rattle.heaviest.specs.Heaviest.{HeaviestOf}
 use Rattle.heaviest.specs.declared.HeaviestAnswer.{HeaviestAnswer}
 use Rattle.pair.specs.Pair.{PairOf}

@@ -5,8 +5,8 @@ use mathlib.Core.List.{List, [], _∷_, _++_}
 use lib.IntN.{pos, negsuc}
 use Rattle.tree.specs.Accept.{acceptanceRefusal}
 use Rattle.spines.specs.declared.HeadsAnswer.the-variants.{Written}
-use Rattle.marks.specs.Change.{changeRefusal}
-use Rattle.marks.specs.declared.Change.the-variants.{Changed}
+use Rattle.changes.specs.Change.{changeRefusal}
+use Rattle.changes.specs.declared.Change.the-variants.{Changed}
 use Rattle.heaviest.specs.Heaviest.{heaviestRefusal}
 use Rattle.heaviest.specs.declared.HeaviestAnswer.the-variants.{Between}
 use Rattle.listing.specs.declared.Listed.the-variants.{Rows}

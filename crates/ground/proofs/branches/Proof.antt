@@ -4,7 +4,7 @@ use Prim.Native.Nat.{_-_, _/_, _≤_, _<_}
 use mathlib.Core.Path.{ap, _∙_}
 use native.Mathlib.Omega.{arith}
 use borrow.Author.Needs.{needs}
-use Rattle.tree.proofs.Net.{reads-length}
+use Rattle.net.proofs.Net.{reads-length}
 use Rattle.marks.proofs.Weights.{under-lifts, under-small}
 use Rattle.ground.specs.work.Grounded.{BranchesReadable, Branches}
 use Rattle.ground.proofs.Branching.{branches-none, branches-more, branches-all, row-in}

@@ -7,10 +7,10 @@ use lib.IntN.{ℤ}
 use lib.ListN.{length}
 use Rattle.arrays.specs.At.{at}
 use Rattle.table.specs.work.Diff.{Diff}
-use Rattle.tree.specs.Net.{firstEnd, secondEnd, lengthOf}
-use Rattle.tree.specs.work.Net.{Net}
-use Rattle.tree.specs.Value.{Value}
-use Rattle.tree.specs.work.Walked.{Walked}
+use Rattle.net.specs.Net.{firstEnd, secondEnd, lengthOf}
+use Rattle.net.specs.work.Net.{Net}
+use Rattle.net.specs.Value.{Value}
+use Rattle.reach.specs.work.Walked.{Walked}
 use Rattle.paths.specs.work.Ground.{Ground}
 use Rattle.marks.specs.Weighs.{weightUnder}
 use Rattle.table.specs.work.Lift.{rowLift}

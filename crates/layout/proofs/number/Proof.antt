@@ -2,8 +2,8 @@
 -- own, so nothing laid out is overwritten.
 use native.Mathlib.Omega.{arith}
 use borrow.Author.Needs.{needs}
-use Rattle.tree.proofs.Above.{fits-up}
-use Rattle.tree.proofs.Grown.{grown-tree}
+use Rattle.net.proofs.Above.{fits-up}
+use Rattle.reach.proofs.Grown.{grown-tree}
 use Rattle.spines.proofs.Head.{head-above}
 use Rattle.layout.proofs.Spots.{spots-of}
 use Rattle.layout.proofs.number.Statement.{statement}

@@ -6,8 +6,8 @@ use mathlib.Core.Logic.{_⊎_, _≢_}
 use mathlib.Core.List.{List}
 use lib.ListN.{length}
 use Rattle.arrays.specs.At.{at}
-use Rattle.tree.specs.Count.{Count}
-use Rattle.tree.specs.work.Rooted.{Above}
+use Rattle.net.specs.Count.{Count}
+use Rattle.net.specs.work.Rooted.{Above}
 use Rattle.spines.specs.work.Parents.{Child}
 
 -- there is room for a child of size zv below a node of spot sp, next free spot cp and size zp

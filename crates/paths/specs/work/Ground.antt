@@ -7,8 +7,8 @@ use mathlib.Core.List.{List}
 use lib.IntN.{ℤ}
 use Rattle.arrays.specs.At.{at}
 use Rattle.table.specs.work.Diff.{Diff}
-use Rattle.tree.specs.work.Rooted.{Rooted}
-use Rattle.tree.specs.work.Grown.{Grown}
+use Rattle.net.specs.work.Rooted.{Rooted}
+use Rattle.reach.specs.work.Grown.{Grown}
 use Rattle.table.specs.work.Lift.{rowLift}
 
 -- some net of n nodes whose walk and branches these are: row r of the first k joins u r and v r, is `long r` long and

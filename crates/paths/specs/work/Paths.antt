@@ -6,7 +6,7 @@ use lib.IntN.{ℤ}
 use lib.ListN.{length}
 use Rattle.arrays.specs.At.{at}
 use Rattle.table.specs.work.Diff.{Diff}
-use Rattle.tree.specs.Value.{Value}
+use Rattle.net.specs.Value.{Value}
 use Rattle.paths.specs.work.Ground.{Ground}
 use Rattle.table.specs.work.Lift.{sumLift, sumEnd}
 

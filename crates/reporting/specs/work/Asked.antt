@@ -7,7 +7,7 @@ use lib.ListN.{length}
 use Rattle.table.specs.Header.{nodesOf, boundOf}
 use Rattle.tree.specs.Accept.{Accepts}
 use Rattle.tree.specs.declared.Acceptance.the-variants.{Accepted}
-use Rattle.tree.specs.work.Net.{Net}
+use Rattle.net.specs.work.Net.{Net}
 use Rattle.pages.specs.Listing.{Entry}
 use Rattle.pages.specs.Passes.{Qualifies}
 use Rattle.pages.specs.Paged.{Paged}

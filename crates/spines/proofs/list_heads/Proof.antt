@@ -1,7 +1,7 @@
 -- `list_heads` meets its contract: 20 by the list's length; else the heads by the walk's arrays are those of the net,
 -- and all of them are copied.
 use Rattle.table.specs.Refuse.{refused}
-use Rattle.tree.proofs.NetWalk.{walk-grown}
+use Rattle.reach.proofs.NetWalk.{walk-grown}
 use Rattle.spines.proofs.HeadsOnly.{heads-listed}
 use native.Mathlib.Omega.{arith}
 use borrow.Author.Needs.{needs}

@@ -4,8 +4,8 @@
 use Prim.Native.Nat.{_-_, _≤_, _<_}
 use native.Mathlib.Omega.{arith}
 use borrow.Author.Needs.{needs}
-use Rattle.tree.specs.work.Grown.{Grown}
-use Rattle.tree.proofs.Grown.{read-node, read-parent}
+use Rattle.reach.specs.work.Grown.{Grown}
+use Rattle.reach.proofs.Grown.{read-node, read-parent}
 use Rattle.spines.proofs.Backward.{Given}
 use Rattle.spines.proofs.SizeSweep.{Node, sizes-none, sizes-next, sizes-all, sizes-fit, size-fits, root-size}
 use Rattle.spines.proofs.sizes_of.Statement.{statement}

@@ -6,9 +6,9 @@ use mathlib.Core.Logic.{_≢_}
 use mathlib.Core.List.{List}
 use lib.ListN.{length}
 use Rattle.arrays.specs.At.{at}
-use Rattle.tree.specs.Count.{Count}
-use Rattle.tree.specs.work.Rooted.{Above, Rooted}
-use Rattle.tree.specs.work.Grown.{Grown}
+use Rattle.net.specs.Count.{Count}
+use Rattle.net.specs.work.Rooted.{Above, Rooted}
+use Rattle.reach.specs.work.Grown.{Grown}
 use Rattle.spines.specs.Spine.{Head}
 use Rattle.spines.specs.Hops.{Hops}
 

@@ -1,7 +1,7 @@
 -- `walk` meets its contract: from the root of an accepted net all its nodes are reached.
 use native.Mathlib.Omega.{arith}
 use Rattle.tree.proofs.Begins.{fitting-readable}
-use Rattle.tree.proofs.NetWalk.{net-fitting, walk-all}
+use Rattle.reach.proofs.NetWalk.{net-fitting, walk-all}
 use borrow.Author.Needs.{needs}
 use Rattle.tree.proofs.walk.Statement.{statement}
 use Rattle.tree.proofs.walk.Tie as tie

@@ -4,7 +4,7 @@ use mathlib.Core.Path.{_≡_}
 use mathlib.Core.Logic.{_≢_}
 use mathlib.Core.List.{List}
 use Rattle.arrays.specs.At.{at}
-use Rattle.tree.specs.work.Rooted.{Above}
+use Rattle.net.specs.work.Rooted.{Above}
 
 pub record Meets (par : ℕ → ℕ) (x y t : ℕ) : Type 0 where
   pub first : Above par t x

@@ -5,8 +5,8 @@ use Prim.Native.Nat.{_-_, _≤_, _<_}
 use mathlib.Core.Path.{_≡_}
 use native.Mathlib.Omega.{arith}
 use borrow.Author.Needs.{needs}
-use Rattle.tree.specs.work.Grown.{Grown}
-use Rattle.tree.proofs.Grown.{read-node, read-parent}
+use Rattle.reach.specs.work.Grown.{Grown}
+use Rattle.reach.proofs.Grown.{read-node, read-parent}
 use Rattle.spines.specs.work.Parents.{SizesAll}
 use Rattle.layout.specs.work.Seats.{Seating}
 use Rattle.layout.proofs.Seating.{seating-one, seat-room, seat-fits, seating-next}

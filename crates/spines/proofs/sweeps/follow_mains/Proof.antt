@@ -3,8 +3,8 @@
 use Prim.Native.Nat.{_-_, _<_}
 use native.Mathlib.Omega.{arith}
 use borrow.Author.Needs.{needs}
-use Rattle.tree.specs.work.Grown.{Grown}
-use Rattle.tree.proofs.Grown.{read-node, read-parent}
+use Rattle.reach.specs.work.Grown.{Grown}
+use Rattle.reach.proofs.Grown.{read-node, read-parent}
 use Rattle.spines.specs.work.Sweeps.{LeavesAll, BestChildren}
 use Rattle.spines.proofs.HeadSweep.{Heads, heads-one, heads-more, heads-all}
 use Rattle.spines.proofs.sweeps.follow_mains.Statement.{statement}

@@ -5,8 +5,8 @@ use Prim.Native.Nat.{_-_, _≤_, _<_}
 use native.Mathlib.Omega.{arith}
 use borrow.Author.Needs.{needs}
 use Rattle.arrays.specs.At.{at}
-use Rattle.tree.specs.work.Grown.{Grown}
-use Rattle.tree.proofs.Grown.{read-node, read-parent}
+use Rattle.reach.specs.work.Grown.{Grown}
+use Rattle.reach.proofs.Grown.{read-node, read-parent}
 use Rattle.spines.specs.Spine.{Leaf}
 use Rattle.spines.specs.work.Parents.{Child}
 use Rattle.spines.proofs.Backward.{Given}

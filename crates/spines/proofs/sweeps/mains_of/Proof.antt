@@ -3,7 +3,7 @@
 use Prim.Native.Nat.{_-_, _≤_, _<_}
 use native.Mathlib.Omega.{arith}
 use borrow.Author.Needs.{needs}
-use Rattle.tree.specs.work.Grown.{Grown}
+use Rattle.reach.specs.work.Grown.{Grown}
 use Rattle.spines.specs.work.Sweeps.{BestChildren}
 use Rattle.spines.proofs.MainSweep.{bests-none, bests-more, bests-all, best-small, read-child}
 use Rattle.spines.proofs.sweeps.mains_of.Statement.{statement}

@@ -1,0 +1,43 @@
+// The operations claim, commit and abort: what they change of the marks.
+ghost use Rattle.changes.specs.Change.{Commits, Aborts};
+ghost use Rattle.changes.specs.Claim.{Claims};
+use crate::along::claim_pair;
+use crate::settle::settle;
+use marks::FREE;
+use marks::SPENT;
+use tree::Acceptance;
+use tree::Refusal;
+
+mod along;
+mod settle;
+
+// How many marks an operation changed, or why it did nothing.
+pub enum Change {
+    Changed(u16),
+    Refused(Refusal),
+}
+
+// Each free branch of the path between a and b becomes held by the run.
+pub fn claim(s: &[u8], marks: &mut [u16], run: u16, a: u16, b: u16) -> Change
+    ensures { λ r. ⌜ Claims (now (s .entry)) (now (marks .entry)) run a b (r, now (marks .exit)) ⌝ }
+{
+    let o = tree::accept(s);
+    match o {
+        Acceptance::Refused(why) => Change::Refused(why),
+        Acceptance::Accepted { nodes, bound } => { claim_pair(s, marks, nodes, bound, run, a, b) }
+    }
+}
+
+// Each branch held by the run becomes spent.
+pub fn commit(s: &[u8], marks: &mut [u16], run: u16) -> Change
+    ensures { λ r. ⌜ Commits (now (s .entry)) (now (marks .entry)) run (r, now (marks .exit)) ⌝ }
+{
+    settle(s, marks, run, SPENT)
+}
+
+// Each branch held by the run becomes free.
+pub fn abort(s: &[u8], marks: &mut [u16], run: u16) -> Change
+    ensures { λ r. ⌜ Aborts (now (s .entry)) (now (marks .entry)) run (r, now (marks .exit)) ⌝ }
+{
+    settle(s, marks, run, FREE)
+}

@@ -1,0 +1,22 @@
+-- Laws of nets, by topic, for the crates above: walks, rings, the one path, counts, parents. None is of code.
+pub mod Rows
+pub mod Joined
+pub mod Bridge
+pub mod OnePath
+pub mod Erase
+pub mod RingExactly
+pub mod After
+pub mod RingRows
+pub mod Labels
+pub mod Counts
+pub mod Rooted
+pub mod Values
+pub mod Net
+pub mod Above
+pub mod Climbs
+pub mod Route
+pub mod Far
+pub mod Short
+pub mod Hung
+pub mod Flip
+pub mod OneRing

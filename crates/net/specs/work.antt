@@ -1,0 +1,6 @@
+-- Working statements: what functions promise each other, and no part of an operation's promise.
+pub mod Forest
+pub mod Net
+pub mod Rooted
+pub mod Rows
+pub mod Simple

@@ -1,0 +1,6 @@
+-- Working statements: what functions promise each other, and no part of an operation's promise.
+pub mod Chains
+pub mod Grown
+pub mod Half
+pub mod Queue
+pub mod Walked

@@ -1,0 +1,2 @@
+-- That each promise of the reader allows one outcome.
+pub mod Only
