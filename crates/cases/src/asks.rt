@@ -113,9 +113,9 @@ fn of_table(s: &[u8], q: Ask) {
     match code {
         1 => say::line(opened(table::open_table(s))),
         2 => say::line(opened(table::examine(s))),
-        3 => say::bytes(say::fine(0, 0, 0), reader::row_part(s, row), shown),
-        4 => say::line(say::fine(1, reader::next_row(s, row) as u64, 0)),
-        _ => say::bytes(say::fine(0, 0, 0), reader::first_row(s), shown),
+        3 => say::bytes(say::fine(0, 0, 0), table::row_part(s, row), shown),
+        4 => say::line(say::fine(1, table::next_row(s, row) as u64, 0)),
+        _ => say::bytes(say::fine(0, 0, 0), table::first_row(s), shown),
     }
 }
 

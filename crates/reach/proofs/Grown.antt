@@ -13,6 +13,7 @@ use Rattle.net.specs.Count.{Count}
 use Rattle.net.specs.work.Rooted.{Rooted}
 use Rattle.reach.specs.work.Walked.{Reached, Walked}
 use Rattle.reach.specs.work.Grown.{Grown}
+use Rattle.reach.specs.work.Queue.{Reaches}
 use Rattle.net.specs.work.Rows.{RowsFit}
 use Rattle.net.proofs.Rows.{ends-flip}
 use Rattle.net.proofs.Joined.{joined-trans, joined-sym}
@@ -107,6 +108,16 @@ module _ (us vs : ℕ → ℕ) (rows n m : ℕ) (parent half order place : List 
 
   pub all-joined : n ≤ m → (x : ℕ) → x < n → J x
   all-joined l x b = count-full n (λ x h. h .0) reached-count l x b .1
+
+-- so any two walks reach as many
+pub reaches-only : (us vs : ℕ → ℕ) (rows m m′ : ℕ) → RowsFit us vs rows 4096 → Reaches us vs rows m
+    → Reaches us vs rows m′ → m ≡ m′
+reaches-only us vs rows m m′ fit w w′ =
+    count-unique
+    (reached-count us vs rows 4096 m (w .parent) (w .half) (w .order) (w .place) (omega arith) (omega arith) fit
+    (w .walked))
+    (reached-count us vs rows 4096 m′ (w′ .parent) (w′ .half) (w′ .order) (w′ .place) (omega arith) (omega arith) fit
+    (w′ .walked))
 
 module _ (us vs : ℕ → ℕ) (rows n : ℕ) (parent half order place : List ℕ) (small : n ≤ 4096) (some : 1 ≤ n)
     (fit : RowsFit us vs rows n) (all : (x : ℕ) → x < n → Joined us vs (First rows) 0 x)

@@ -1,14 +1,16 @@
--- Union by rank: what its loop keeps of the rows before row r, and that one row more keeps it.
+-- Union by rank: what its loop keeps of the rows before row r, and that one row more keeps it. And that the row found is
+-- one.
 use Prim.Native.Nat.{ℕ, suc, _+_, _≤_, _<_}
 use mathlib.Core.Path.{_≡_, refl, sym, ap, _∙_}
 use mathlib.Core.Logic.{_⊎_, inl, inr, _≢_}
 use mathlib.Core.List.{List}
 use native.Mathlib.Omega.{arith}
 use native.Mathlib.Numerals.{add-one}
-use native.Mathlib.Decide.{ℕ-discrete}
+use native.Mathlib.Decide.{ℕ-discrete, decLt}
 use lib.ListN.{length, set, length-set}
 use lib.Seq.{getD-set-same, getD-set-other}
 use Rattle.arrays.specs.At.{at}
+use Rattle.table.specs.Refuse.{Only}
 use Rattle.net.specs.Graph.{First, Walk, stop, go, Joined}
 use Rattle.net.specs.work.Forest.{Forest}
 use Rattle.net.specs.work.Rows.{RowsFit}
@@ -247,3 +249,12 @@ numbered-more i l b n = record { long = length-set l i i ∙ n .long; each = λ 
     pick : (k : ℕ) → k < i + 1 → Dec (k ≡ i) → at (set l i i) k ≡ k
     pick k h (yes e) = rw e (getD-set-same l i i 0 (omega (arith, n .long)))
     pick k h (no m) = getD-set-other l i k i 0 m ∙ n .each k (omega arith)
+
+-- one answer: an earlier row that closes a ring would stand in the later one's forest
+pub first-ring-only : (us vs : ℕ → ℕ) (rows : ℕ) → Only (FirstRing us vs rows)
+first-ring-only us vs rows x y p q = pick (decLt x y) (decLt y x)
+  where
+    pick : Dec (x < y) → Dec (y < x) → x ≡ y
+    pick (yes l) d = absurd (q .forest x l (p .closes (omega (arith, q .within))))
+    pick (no l) (yes g) = absurd (p .forest y g (q .closes (omega (arith, p .within))))
+    pick (no l) (no g) = omega arith

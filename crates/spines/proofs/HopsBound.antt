@@ -31,7 +31,7 @@ use Rattle.spines.proofs.Net.{child-net, net-child}
 -- one number of hops
 pub hops-only : {u v : ℕ → ℕ} {k n x y h g : ℕ} → Forest u v k → Hops u v k n x y h → Hops u v k n x y g → h ≡ g
 hops-only {u} {v} F p q =
-    count-unique (p .touches) (rw (unique u v F (p .walk) (q .walk) (p .once) (q .once) .1) (q .touches))
+    count-unique (p .touches) (rw (unique u v F (p .path .1) (q .path .1) (p .path .2) (q .path .2) .1) (q .touches))
 
 -- and one by a walk's arrays, of any net that hangs so
 pub hops-by-only : {u v row : ℕ → ℕ} {k n x y h g : ℕ} {parent place : List ℕ}
@@ -41,12 +41,10 @@ hops-by-only {u} {v} {row} {k} R p q = hops-only (R .forest) (p .hops u v k row 
 -- the same either way
 pub hops-flip : {u v : ℕ → ℕ} {k n x y h : ℕ} → Hops u v k n x y h → Hops u v k n y x h
 hops-flip {u} {v} p =
-    let f = flip u v (p .walk) in
+    let f = flip u v (p .path .1) in
     record {
       rows = f .rows;
-      nodes = f .nodes;
-      walk = f .walk;
-      once = f .once (p .once);
+      path = (f .nodes, f .walk, f .once (p .path .2));
       touches = count-same (λ h t. record { node = t .node; on = f .fro (t .node) (t .on); head = t .head })
           (λ h t. record { node = t .node; on = f .to (t .node) (t .on); head = t .head }) (p .touches);
     }
@@ -95,9 +93,7 @@ module _ {u v : ℕ → ℕ} {k n : ℕ} {par row place : ℕ → ℕ} (R : Root
       let r = route R T bx by left right apart in
       record {
         rows = r .rows;
-        nodes = r .nodes;
-        walk = r .walk;
-        once = r .once;
+        path = (r .nodes, r .walk, r .once);
         touches = count-same
             (λ h a. same-touched (child-net R T some) (net-child R T some) _ h
             (record { node = a .node; on = r .all (a .node) (a .below) (a .above); head = a .head }))

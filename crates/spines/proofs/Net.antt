@@ -34,8 +34,8 @@ snoc-last l m a b e =
 pub parent-only : {u v : ℕ → ℕ} {k n : ℕ} → Forest u v k → (p q c : ℕ) → ChildOf u v k n p c → ChildOf u v k n q c
     → p ≡ q
 parent-only {u} {v} F p q c i j =
-    let e = unique u v F (walk-snoc u v (i .walk) (i .low) (i .ends)) (walk-snoc u v (j .walk) (j .low) (j .ends))
-    (distinct-snoc (0 ∷ i .nodes) c (i .once) (i .new)) (distinct-snoc (0 ∷ j .nodes) c (j .once) (j .new)) in
+    let e = unique u v F (walk-snoc u v (i .path .1) (i .low) (i .ends)) (walk-snoc u v (j .path .1) (j .low) (j .ends))
+    (distinct-snoc (0 ∷ i .path .0) c (i .path .2) (i .new)) (distinct-snoc (0 ∷ j .path .0) c (j .path .2) (j .new)) in
     let r : i .row ≡ j .row = snoc-last (i .rows) (j .rows) (i .row) (j .row) (e .0) in
     other u v (ends-flip u v (rw r at (i .ends))) (ends-flip u v (j .ends))
 
@@ -66,10 +66,8 @@ module _ {u v : ℕ → ℕ} {k n : ℕ} {par row place : ℕ → ℕ} (R : Root
       record {
         fits = i .fits;
         rows = r .rows;
-        nodes = r .nodes;
+        path = (r .nodes, r .walk, r .once);
         row = row c;
-        walk = r .walk;
-        once = r .once;
         low = R .row-fits c (i .fits) (i .low);
         ends = ends-flip u v (rw (i .of) at (R .ends c (i .fits) (i .low)));
         new = λ m. omega (arith, place-up T bp (path-above p c bp m), rw (i .of) at (T .earlier c (i .fits) (i .low)));
@@ -85,8 +83,8 @@ module _ {u v : ℕ → ℕ} {k n : ℕ} {par row place : ℕ → ℕ} (R : Root
       bp : p < n
       bp = side (i .ends)
 
-      same : root-route p bp .nodes ≡ i .nodes
-      same = unique u v (R .forest) (root-route p bp .walk) (i .walk) (root-route p bp .once) (i .once) .1
+      same : root-route p bp .nodes ≡ i .path .0
+      same = unique u v (R .forest) (root-route p bp .walk) (i .path .1) (root-route p bp .once) (i .path .2) .1
 
       pick : ((p ≢ 0) × (row p ≡ i .row) × (par p ≡ c)) ⊎ ((c ≢ 0) × (row c ≡ i .row) × (par c ≡ p)) → Child n par p c
       pick (inl o) = absurd (i .new (rw same at (above-path p c bp (up (o .0) (o .2) self))))

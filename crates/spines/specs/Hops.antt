@@ -1,8 +1,8 @@
 -- Hops: the number of different spines that a path touches.
 use Prim.Native.Nat.{ℕ}
 use mathlib.Core.List.{List, _∷_}
-use Rattle.arrays.specs.Members.{In, Distinct}
-use Rattle.net.specs.Graph.{First, Walk}
+use Rattle.arrays.specs.Members.{In}
+use Rattle.net.specs.Path.{Path}
 use Rattle.net.specs.Count.{Count}
 use Rattle.spines.specs.Spine.{ChildOf, Head}
 
@@ -15,7 +15,5 @@ pub record Touched (C : ℕ → ℕ → Type 0) (n : ℕ) (ns : List ℕ) (h : �
 -- the path from x to y in a net of k rows and n nodes touches h different spines
 pub record Hops (u v : ℕ → ℕ) (k n x y h : ℕ) : Type 0 where
   pub rows : List ℕ
-  pub nodes : List ℕ
-  pub walk : Walk u v (First k) x rows nodes y
-  pub once : Distinct (x ∷ nodes)
-  pub touches : Count (Touched (ChildOf u v k n) n (x ∷ nodes)) h
+  pub path : Path u v k x rows y
+  pub touches : Count (Touched (ChildOf u v k n) n (x ∷ path .0)) h

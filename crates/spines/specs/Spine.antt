@@ -2,8 +2,9 @@
 use Prim.Native.Nat.{ℕ, _≤_, _<_}
 use mathlib.Core.Path.{_≡_}
 use mathlib.Core.List.{List, _∷_}
-use Rattle.arrays.specs.Members.{In, Distinct}
-use Rattle.net.specs.Graph.{First, Ends, Walk}
+use Rattle.arrays.specs.Members.{In}
+use Rattle.net.specs.Graph.{Ends}
+use Rattle.net.specs.Path.{Path}
 use Rattle.net.specs.Count.{Count}
 
 -- c is a child of p in a net of k rows and n nodes: the simple path from node 0 leads to p, and one row on to a node
@@ -11,13 +12,11 @@ use Rattle.net.specs.Count.{Count}
 pub record ChildOf (u v : ℕ → ℕ) (k n p c : ℕ) : Type 0 where
   pub fits : c < n
   pub rows : List ℕ
-  pub nodes : List ℕ
+  pub path : Path u v k 0 rows p
   pub row : ℕ
-  pub walk : Walk u v (First k) 0 rows nodes p
-  pub once : Distinct (0 ∷ nodes)
   pub low : row < k
   pub ends : Ends u v row p c
-  pub new : ¬ In c (0 ∷ nodes)
+  pub new : ¬ In c (0 ∷ path .0)
 
 -- all else is said by children alone: C p c is that c is a child of p, and the nodes are those below n
 module _ (C : ℕ → ℕ → Type 0) (n : ℕ) where

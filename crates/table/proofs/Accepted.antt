@@ -1,12 +1,13 @@
 -- What a table that passed has, for this crate and those above: an opened header's facts, an accepted table's facts,
 -- and how an operation that begins with `examine` goes on where nothing is refused.
 use mathlib.Core.Path.{_≡_, refl, sym, ap, _∙_}
-use mathlib.Core.List.{List}
+use mathlib.Core.List.{List, [], _∷_}
 use Prim.Native.Nat.{ℕ, _+_, _-_, _*_, _≤_, _<_}
 use native.Mathlib.Omega.{arith}
-use lib.ListN.{length}
+use lib.ListN.{length, take}
+use native.Mathlib.Nat.{sub-zero}
+use Rattle.table.specs.Bytes.{byteAt}
 use Rattle.table.specs.Refuse.{refused, passed, fine, Only}
-use Rattle.arrays.specs.At.{at}
 use Rattle.table.specs.Signed.{InRange}
 use Rattle.table.specs.Header.{Header, Lettered, versionOf, nodesOf, boundOf}
 use Rattle.table.specs.Row.{rowAt, Stands}
@@ -33,7 +34,7 @@ pub record Headed (s : List ℕ) : Type 0 where
   pub version : versionOf s ≡ 1
   pub some : 1 ≤ nodesOf s
   pub few : nodesOf s ≤ 4096
-  pub reserved : at s 7 ≡ 0
+  pub reserved : byteAt s 7 ≡ 0
   pub size : length s ≡ 12 * nodesOf s
 
 -- what a row that is not refused has
@@ -224,3 +225,11 @@ refused-header {A} refuse s w p = header-map handed openingRefusal s (λ h e. ab
     handed : Opening → A
     handed (Opened n b) = refuse 0 0
     handed (Refused v) = refuse (v .number) (v .row)
+
+-- all of a list is its part from 0 to its end
+pub take-all : (s : List ℕ) → take (length s - 0) s ≡ s
+take-all s = rw sub-zero (all s)
+  where
+    all : (s : List ℕ) → take (length s) s ≡ s
+    all [] = refl
+    all (x ∷ xs) = ap (λ (l : List ℕ). x ∷ l) (all xs)

@@ -1,7 +1,7 @@
 -- Each promise of this crate allows one outcome. The header's and the rows' follow along their lists of refusals; a
--- row by whether it stands there.
+-- part, a row number and a row by whether the row stands there.
 use mathlib.Core.Path.{_≡_, sym, _∙_}
-use mathlib.Core.List.{List}
+use mathlib.Core.List.{List, []}
 use Prim.Native.Nat.{ℕ, _+_, _*_, _≤_, _<_}
 use native.Mathlib.Decide.{decLe, decLt}
 use native.Mathlib.Omega.{arith}
@@ -11,7 +11,8 @@ use lib.IntN.{ℤ, pos, negsuc}
 use Rattle.table.specs.Refuse.{Only}
 use Rattle.table.specs.Header.{Header, nodesOf}
 use Rattle.table.specs.Signed.{InRange}
-use Rattle.table.specs.Row.{Stands, RowOf, rowAt}
+use Rattle.table.specs.Row.{Stands, PartOf, NextOf, RowOf, rowAt}
+use Rattle.table.specs.Reader.{HeldOf, Stepped, FirstOf}
 use Rattle.table.specs.work.Lift.{LiftedOf, LoweredOf}
 use Rattle.table.specs.Examine.{Tested}
 use Rattle.table.specs.Opens.{openingRefusal, Opens, Examines}
@@ -35,12 +36,21 @@ pub examine-only : (s : List ℕ) → Only (Examines s)
 examine-only s = tested-only openingRefusal s (λ x y p q. p ∙ sym q)
 
 -- a row stands, or it does not
-pub by-row : {C : Type 0} (s : List ℕ) (r : ℕ) → (Stands s r → C) → ((Stands s r → ⊥) → C) → C
+by-row : {C : Type 0} (s : List ℕ) (r : ℕ) → (Stands s r → C) → ((Stands s r → ⊥) → C) → C
 by-row {C} s r f g = pick (decLe (24 + 12 * r) (length s))
   where
     pick : Dec (Stands s r) → C
     pick (yes h) = f h
     pick (no h) = g h
+
+pub part-only : (s : List ℕ) (home : ℕ × ℕ) (r : ℕ) (q q′ : List ℕ) (place place′ : ℕ × ℕ) → PartOf s home r q place
+    → PartOf s home r q′ place′ → (q ≡ q′) × (place ≡ place′)
+part-only s home r q q′ place place′ p p′ =
+    by-row s r (λ h. (p .bytes h ∙ sym (p′ .bytes h), p .own h ∙ sym (p′ .own h)))
+    (λ h. (p .none h ∙ sym (p′ .none h), p .none-at h ∙ sym (p′ .none-at h)))
+
+pub next-only : (s : List ℕ) (r : ℕ) → Only (NextOf s r)
+next-only s r x y p q = by-row s r (λ h. p .moves h ∙ sym (q .moves h)) (λ h. p .stays h ∙ sym (q .stays h))
 
 pub row-only : (s : List ℕ) (r : ℕ) → Only (RowOf s r)
 row-only s r x y p q = by-row s r (λ h. p .there h ∙ sym (q .there h)) (λ h. p .none h ∙ sym (q .none h))
@@ -72,3 +82,24 @@ lowered-only x y z p q = pick (decLt x 17179869184)
     pick : Dec (x < 17179869184) → y ≡ z
     pick (yes h) = diff-only (p .back h) (q .back h)
     pick (no h) = p .none (omega arith) ∙ sym (q .none (omega arith))
+
+-- the reader's
+pub held-only : (s : List ℕ) (home : ℕ × ℕ) (q q′ : List ℕ) (place place′ : ℕ × ℕ) → HeldOf s home q place
+    → HeldOf s home q′ place′ → (q ≡ q′) × (place ≡ place′)
+held-only s home q q′ place place′ p p′ = (
+  header-only (λ _ _. []) s (λ x y a b. a ∙ sym b) q q′ (p .bytes) (p′ .bytes),
+  p .own ∙ sym (p′ .own),
+)
+
+pub step-only : (s : List ℕ) (home : ℕ × ℕ) (r : ℕ) (q q′ : List ℕ) (place place′ : ℕ × ℕ) (n n′ : ℕ)
+    → Stepped s home r q place n → Stepped s home r q′ place′ n′ → ((q ≡ q′) × (place ≡ place′)) × (n ≡ n′)
+step-only s home r q q′ place place′ n n′ p p′ = (
+  part-only s home r q q′ place place′ (p .part) (p′ .part),
+  next-only s r n n′ (p .moved) (p′ .moved),
+)
+
+pub first-only : (s : List ℕ) (home : ℕ × ℕ) (q q′ : List ℕ) (place place′ : ℕ × ℕ) → FirstOf s home q place
+    → FirstOf s home q′ place′ → (q ≡ q′) × (place ≡ place′)
+first-only s home q q′ place place′ p p′ =
+    let h = held-only s home (p .kept) (p′ .kept) (p .kept-at) (p′ .kept-at) (p .of) (p′ .of) in
+    part-only (p′ .kept) (p′ .kept-at) 0 q q′ place place′ (rw (h .0, h .1) at (p .part)) (p′ .part)

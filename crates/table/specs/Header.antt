@@ -4,13 +4,12 @@ use mathlib.Core.Path.{_≡_}
 use mathlib.Core.List.{List}
 use Prim.Native.Nat.{ℕ, _*_, _≤_}
 use lib.ListN.{length}
-use Rattle.arrays.specs.At.{at}
 use Rattle.table.specs.Refuse.{Unless}
-use Rattle.table.specs.Bytes.{u16At, u32At}
+use Rattle.table.specs.Bytes.{byteAt, u16At, u32At}
 
 -- R, T, N
 abbrev pub Lettered : List ℕ → Type 0
-Lettered s = (at s 0 ≡ 82) × (at s 1 ≡ 84) × (at s 2 ≡ 78)
+Lettered s = (byteAt s 0 ≡ 82) × (byteAt s 1 ≡ 84) × (byteAt s 2 ≡ 78)
 
 abbrev pub versionOf : List ℕ → ℕ
 versionOf s = u16At s 3
@@ -28,6 +27,6 @@ Header A refusal s rest =
     (Unless A (refusal 2 0) (Lettered s)
     (Unless A (refusal 3 0) (versionOf s ≡ 1)
     (Unless A (refusal 4 0) ((1 ≤ nodesOf s) × (nodesOf s ≤ 4096))
-    (Unless A (refusal 5 0) (at s 7 ≡ 0)
+    (Unless A (refusal 5 0) (byteAt s 7 ≡ 0)
     (Unless A (refusal 6 0) (length s ≡ 12 * nodesOf s)
     rest)))))

@@ -4,6 +4,7 @@ pub mod Bytes
 pub mod Examine
 pub mod Header
 pub mod Opens
+pub mod Reader
 pub mod Refuse
 pub mod Row
 pub mod Signed

@@ -1,16 +1,19 @@
-// The branch table, version 1: bytes to header and rows. Refusals 1 to 10, whether a row stands, a decoded row and
-// its lifted weight. Every function takes any bytes and any number; none asks anything of its caller.
+// The branch table, version 1: bytes to header and rows. Refusals 1 to 10, the part of a row, a decoded row and its
+// lifted weight, and the reader that holds the table. Every function takes any bytes and any number; none asks anything
+// of its caller.
 ghost use mathlib.Core.Path.{_≡_};
 ghost use Prim.Native.Nat.{_+_, _*_, _≤_, _<_};
 ghost use lib.ListN.{length};
 ghost use mir.Syntax.{w32};
 ghost use mir.Val.{toZ};
+ghost use denote.Ref.{ptr};
 ghost use Rattle.table.specs.Bytes.{u16At, u32At};
 ghost use Rattle.table.specs.Opens.{openingRefusal, Opens, Examines};
-ghost use Rattle.table.specs.Row.{Stands, RowOf, rowAt};
+ghost use Rattle.table.specs.Row.{Stands, PartOf, NextOf, RowOf, rowAt};
 ghost use Rattle.table.specs.work.Standing.{Standing};
 ghost use Rattle.table.specs.Examine.{RowNumber, Rows};
 ghost use Rattle.table.specs.work.Lift.{LiftedOf, LoweredOf};
+ghost use Rattle.table.specs.Reader.{HeldOf, Stepped, FirstOf};
 
 // What is refused, by the paper's number, and the row it names: 0 where none is named.
 pub struct Refusal {
@@ -98,7 +101,7 @@ pub fn open_table(s: &[u8]) -> Opening
 }
 
 // Whether 12 bytes stand from place 12 + 12 * row on. That place is never computed where it would not fit.
-pub fn stands(s: &[u8], row: usize) -> bool
+fn stands(s: &[u8], row: usize) -> bool
     ensures { λ q. ⌜ Standing (now (s .entry)) row q ⌝ }
 {
     if s.len() < 24 {
@@ -108,6 +111,28 @@ pub fn stands(s: &[u8], row: usize) -> bool
         return false;
     }
     true
+}
+
+// The caller's own 12 bytes of a row, or an empty part where fewer stand there.
+pub fn row_part(s: &[u8], row: usize) -> &[u8]
+    ensures { λ q. ⌜ PartOf (now (s .entry)) (ptr (s .entry)) row (now q) (ptr q) ⌝ }
+{
+    if stands(s, row) {
+        let a = 12 + 12 * row;
+        let e = a + 12;
+        return &s[a..e];
+    }
+    &s[0..0]
+}
+
+// The row to stand at after the part of this one was asked for.
+pub fn next_row(s: &[u8], row: usize) -> usize
+    ensures { λ q. ⌜ NextOf (now (s .entry)) row q ⌝ }
+{
+    if stands(s, row) {
+        return row + 1;
+    }
+    row
 }
 
 // 32 bits as a signed number, with no step that could leave its range.
@@ -239,4 +264,53 @@ pub fn examine(s: &[u8]) -> Opening
         Opening::Refused(why) => Opening::Refused(why),
         Opening::Opened { nodes, bound } => rows(s, nodes, bound),
     }
+}
+
+// What a reader of s holds: all of s, or an empty part where its header is refused.
+pub fn held(s: &[u8]) -> &[u8]
+    ensures { λ q. ⌜ HeldOf (now (s .entry)) (ptr (s .entry)) (now q) (ptr q) ⌝ }
+{
+    let o = open_table(s);
+    match o {
+        Opening::Refused(_) => &s[0..0],
+        Opening::Opened { nodes: _, bound: _ } => &s[0..],
+    }
+}
+
+// The row reader: the lent table itself together with the row it stands at.
+pub struct Reader<'a> {
+    pub table: &'a [u8],
+    pub row: usize,
+}
+
+// Opens a reader at row 0.
+pub fn read_from<'a>(table: &'a [u8]) -> Reader<'a>
+    ensures { λ r. ⌜ HeldOf (now (table .entry)) (ptr (table .entry)) (now (r .table)) (ptr (r .table))
+        × (r .row ≡ 0) ⌝ }
+{
+    let t = held(table);
+    Reader { table: t, row: 0 }
+}
+
+// Hands back the caller's own 12 bytes of the row it stands at and moves on by one; where none stand there, an empty
+// part, and stays.
+pub fn step<'s, 'a>(r: &'s mut Reader<'a>) -> &'a [u8]
+    ensures { λ q. ⌜ (now (r .exit) .table ≡ now (r .entry) .table)
+        × Stepped (now (now (r .entry) .table)) (ptr (now (r .entry) .table)) (now (r .entry) .row) (now q) (ptr q)
+        (now (r .exit) .row) ⌝ }
+{
+    let t = r.table;
+    let k = r.row;
+    let p = row_part(t, k);
+    let n = next_row(t, k);
+    r.row = n;
+    p
+}
+
+// The first row's part, by a reader of its own: for callers that have a slice and want no reader.
+pub fn first_row(table: &[u8]) -> &[u8]
+    ensures { λ q. ⌜ FirstOf (now (table .entry)) (ptr (table .entry)) (now q) (ptr q) ⌝ }
+{
+    let mut r = read_from(table);
+    step(&mut r)
 }

@@ -7,7 +7,7 @@ use lib.Dec.{T, eqb, ltb, leb, eqb-refl, eqb→eq, ltb→lt, leb→le, T-not}
 use lib.IntN.{pos, negsuc}
 use lib.ListN.{length}
 use lib.Signed.{leZ, leZ-yes}
-use Rattle.arrays.specs.At.{at}
+use Rattle.table.specs.Bytes.{byteAt}
 use Rattle.table.specs.Header.{versionOf, nodesOf}
 use Rattle.table.specs.Row.{rowAt}
 use Rattle.table.proofs.Accepted.{Headed, Good, GoodTable, good-table, good-number}
@@ -21,8 +21,8 @@ use Rattle.worked.proofs.Tests.{every, every-passed, below, below-all}
 module _ (s : List ℕ) where
   abbrev head-tests : List Bool
   head-tests =
-      leb 12 (length s) ∷ eqb (at s 0) 82 ∷ eqb (at s 1) 84 ∷ eqb (at s 2) 78 ∷ eqb (versionOf s) 1
-      ∷ leb 1 (nodesOf s) ∷ leb (nodesOf s) 4096 ∷ eqb (at s 7) 0 ∷ eqb (length s) (12 * nodesOf s) ∷ []
+      leb 12 (length s) ∷ eqb (byteAt s 0) 82 ∷ eqb (byteAt s 1) 84 ∷ eqb (byteAt s 2) 78 ∷ eqb (versionOf s) 1
+      ∷ leb 1 (nodesOf s) ∷ leb (nodesOf s) 4096 ∷ eqb (byteAt s 7) 0 ∷ eqb (length s) (12 * nodesOf s) ∷ []
 
   headed : T (every head-tests) → Headed s
   headed t =

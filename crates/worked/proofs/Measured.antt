@@ -137,9 +137,7 @@ module _ (way : ℕ → ℕ → List ℕ) (up by : ℕ → ℕ) (s marks : List 
         },
         record {
           rows = rs;
-          nodes = met s a rs;
-          walk = k .0;
-          once = k .1;
+          path = (met s a rs, k .0, k .1);
           touches = counted (eqb→eq _ _ (r .1 .1 .1 .0)) (touched up by s (p .0) (p .1 .0) on (r .1 .1 .0));
         },
       )))

@@ -1,4 +1,4 @@
--- `reader::first_row` meets its contract: a walk of its MIR, by hand. A reader is made in a local; the local is lent to
+-- `table::first_row` meets its contract: a walk of its MIR, by hand. A reader is made in a local; the local is lent to
 -- `step` for a lifetime within 'a that is made for the call; the lifetime is ended, and the local is back and freed.
 use mathlib.Core.Path.{_≡_, refl, subst}
 use Prim.Native.Nat.{ℕ}
@@ -91,23 +91,23 @@ use denote.Triple.Spec.{Meets, tripleOf}
 use denote.Triple.Table.{entered, cited}
 use denote.Triple.Walked.{says, Stays, stay-none-slice, walkOf, goes-none-slice, Walks, ends-at, walked, walk-meets}
 use denote.Exit.{yes}
-use Rattle.reader.specs.Part.{PartOf}
-use Rattle.reader.specs.Reader.{HeldOf, Stepped}
-use Rattle.reader.specs.declared.Reader.{Reader}
-use Rattle.reader.proofs.Reader as T
-use Rattle.reader.proofs.Reader.Laws as T′
-use Rattle.reader.proofs.read_from as read-from
-use Rattle.reader.proofs.read_from.Symbol as read-from-def
-use Rattle.reader.proofs.read_from.Symbol.{name as #reader·read-from}
-use Rattle.reader.proofs.read_from.Met as read-from-thm
-use Rattle.reader.proofs.step as step
-use Rattle.reader.proofs.step.Symbol as step-def
-use Rattle.reader.proofs.step.Symbol.{name as #reader·step}
-use Rattle.reader.proofs.step.Met as step-thm
-use Rattle.reader.proofs.first_row.Key.{name as #reader·first-row}
-use Rattle.reader.proofs.first_row as first-row
-use Rattle.reader.proofs.first_row.Statement as stated
-use Rattle.reader.proofs.first_row.Code as code
+use Rattle.table.specs.Row.{PartOf}
+use Rattle.table.specs.Reader.{HeldOf, Stepped}
+use Rattle.table.specs.declared.Reader.{Reader}
+use Rattle.table.proofs.Reader as T
+use Rattle.table.proofs.Reader.Laws as T′
+use Rattle.table.proofs.read_from as read-from
+use Rattle.table.proofs.read_from.Symbol as read-from-def
+use Rattle.table.proofs.read_from.Symbol.{name as #table·read-from}
+use Rattle.table.proofs.read_from.Met as read-from-thm
+use Rattle.table.proofs.step as step
+use Rattle.table.proofs.step.Symbol as step-def
+use Rattle.table.proofs.step.Symbol.{name as #table·step}
+use Rattle.table.proofs.step.Met as step-thm
+use Rattle.table.proofs.first_row.Key.{name as #table·first-row}
+use Rattle.table.proofs.first_row as first-row
+use Rattle.table.proofs.first_row.Statement as stated
+use Rattle.table.proofs.first_row.Code as code
 
 abbrev stayed : Stays (first-row.ended .signature .params) (first-row.ended .kept)
 stayed = (stay-none-slice (0 ∷ []) tt (plain (λ _. u8)) yes, tt)
@@ -218,8 +218,8 @@ module _ {M : Type 1} (𝓤 : URA M) (H : Heap 𝓤) (A : Atoms 𝓤) (W : Given
       nothing ! $ move ! (2 ∷ 0 ∷ []) $ join ! $ frame ! $ nothing ! $ move ! (2 ∷ 0 ∷ []) $ fjoin ! $ frame ! $ done !
 
   module _ (C : Calls 𝓤 H) (Λ : Loops 𝓤 H) (fm : FmC 𝓤 H (W .laws) C)
-      (known-read : Triple 𝓤 (C #reader·read-from) (ReadFrom 𝓤 H A at-mem run))
-      (known-step : Triple 𝓤 (C #reader·step) (StepC 𝓤 H A at-mem run)) where
+      (known-read : Triple 𝓤 (C #table·read-from) (ReadFrom 𝓤 H A at-mem run))
+      (known-step : Triple 𝓤 (C #table·step) (StepC 𝓤 H A at-mem run)) where
     walk : Is Part s (v ∷ [])
         → ent 𝓤 (onEntry 𝓤 H A first-row.signature (κ, tt) (q, tt) (s, tt) at)
         (WpFn 𝓤 H C Λ code.function (v ∷ []) Post)
@@ -289,7 +289,7 @@ module _ {M : Type 1} (𝓤 : URA M) (H : Heap 𝓤) (A : Atoms 𝓤) (W : Given
 module _ {M : Type 1} (𝓤 : URA M) (H : Heap 𝓤) (A : Atoms 𝓤) (W : Given 𝓤 H A) (mem : Memory → SProp 𝓤)
     (run : Routine → Fun 𝓤) where
   first-row-walks : (C : Calls 𝓤 H) (Λ : Loops 𝓤 H) → FmC 𝓤 H (W .laws) C
-      → Triple 𝓤 (C #reader·read-from) (ReadFrom 𝓤 H A mem run) → Triple 𝓤 (C #reader·step) (StepC 𝓤 H A mem run)
+      → Triple 𝓤 (C #table·read-from) (ReadFrom 𝓤 H A mem run) → Triple 𝓤 (C #table·step) (StepC 𝓤 H A mem run)
       → Walks 𝓤 H A first-row.ended stayed (WpFn 𝓤 H C Λ code.function) (first-row.clauses 𝓤 H A mem run)
   first-row-walks C Λ fm known-read known-step =
       walked 𝓤 H A first-row.ended stayed (first-row.clauses 𝓤 H A mem run) (WpFn 𝓤 H C Λ code.function)
@@ -299,7 +299,7 @@ module _ {M : Type 1} (𝓤 : URA M) (H : Heap 𝓤) (A : Atoms 𝓤) (W : Given
 
 first-row-meets : {M : Type 1} (𝓤 : URA M) (H : Heap 𝓤) (A : Atoms 𝓤) → Given 𝓤 H A
     → (mem : Memory → SProp 𝓤) (run : Routine → Fun 𝓤) (𝓣 : Tables 𝓤 H)
-    → Triple 𝓤 (𝓣 .C #reader·read-from) (ReadFrom 𝓤 H A mem run) → Triple 𝓤 (𝓣 .C #reader·step) (StepC 𝓤 H A mem run)
+    → Triple 𝓤 (𝓣 .C #table·read-from) (ReadFrom 𝓤 H A mem run) → Triple 𝓤 (𝓣 .C #table·step) (StepC 𝓤 H A mem run)
     → Meets 𝓤 H A first-row.signature (WpFn 𝓤 H (𝓣 .C) (𝓣 .Λ) code.function) (first-row.spec 𝓤 H A mem run)
 first-row-meets 𝓤 H A W mem run 𝓣 known-read known-step =
     walk-meets 𝓤 H A first-row.ended stayed W (goes-none-slice 𝓤 H A W 1 (0 ∷ []) tt (plain (λ _. u8)) yes, tt)
@@ -310,9 +310,9 @@ pub first-row-spec : {M : Type 1} → stated.statement M
 unfolding code.routine tablesOf
 first-row-spec 𝓤 H 𝓜 𝓖 𝓡 =
     entered 𝓤 H (tripleOf 𝓤 H (𝓖 .A) first-row.signature (first-row.spec 𝓤 H (𝓖 .A) (𝓜 .mem) (𝓡 .run)))
-    (tables 𝓤 H 𝓜 𝓡 code.env .C) (tables 𝓤 H 𝓜 𝓡 code.env .Λ) #reader·first-row code.function (code.unfolded 𝓤 H 𝓜 𝓡)
+    (tables 𝓤 H 𝓜 𝓡 code.env .C) (tables 𝓤 H 𝓜 𝓡 code.env .Λ) #table·first-row code.function (code.unfolded 𝓤 H 𝓜 𝓡)
     (first-row-meets 𝓤 H (𝓖 .A) (givenOf 𝓤 H 𝓜 𝓖) (𝓜 .mem) (𝓡 .run) (tablesOf 𝓤 H 𝓜 (tables 𝓤 H 𝓜 𝓡 code.env))
-    (cited 𝓤 H (ReadFrom 𝓤 H (𝓖 .A) (𝓜 .mem) (𝓡 .run)) 𝓜 𝓡 code.env #reader·read-from read-from-def.routine
-    code.calls-reader·read-from (read-from-thm.met 𝓤 H 𝓜 𝓖 𝓡))
-    (cited 𝓤 H (StepC 𝓤 H (𝓖 .A) (𝓜 .mem) (𝓡 .run)) 𝓜 𝓡 code.env #reader·step step-def.routine code.calls-reader·step
+    (cited 𝓤 H (ReadFrom 𝓤 H (𝓖 .A) (𝓜 .mem) (𝓡 .run)) 𝓜 𝓡 code.env #table·read-from read-from-def.routine
+    code.calls-table·read-from (read-from-thm.met 𝓤 H 𝓜 𝓖 𝓡))
+    (cited 𝓤 H (StepC 𝓤 H (𝓖 .A) (𝓜 .mem) (𝓡 .run)) 𝓜 𝓡 code.env #table·step step-def.routine code.calls-table·step
     (step-thm.met 𝓤 H 𝓜 𝓖 𝓡)))

@@ -1,4 +1,4 @@
--- `reader::step` meets its contract: a walk of its MIR, by hand. The borrow is opened; the slice and the row are read
+-- `table::step` meets its contract: a walk of its MIR, by hand. The borrow is opened; the slice and the row are read
 -- out of the struct; `row_part` and `next_row` are called on them; the row is stored; and the borrow is closed at the
 -- struct with the next row. The struct is Copy: what it owns is had twice at each call, and one copy is kept.
 use mathlib.Core.Path.{_≡_, refl, ap}
@@ -100,22 +100,22 @@ use denote.Triple.Entry.{onEntry}
 use denote.Triple.Spec.{Meets, tripleOf}
 use denote.Triple.Table.{entered, cited}
 use denote.Triple.Walked.{says, Stays, stay-ref, walkOf, goes-ref, Walks, ends-at, walked, walk-meets}
-use Rattle.reader.specs.Part.{PartOf, NextOf}
-use Rattle.reader.specs.declared.Reader.{Reader}
-use Rattle.reader.proofs.Reader as T
-use Rattle.reader.proofs.Reader.Laws as T′
-use Rattle.reader.proofs.row_part as row-part
-use Rattle.reader.proofs.row_part.Symbol as row-part-def
-use Rattle.reader.proofs.row_part.Symbol.{name as #reader·row-part}
-use Rattle.reader.proofs.row_part.Met as row-part-thm
-use Rattle.reader.proofs.next_row as next-row
-use Rattle.reader.proofs.next_row.Symbol as next-row-def
-use Rattle.reader.proofs.next_row.Symbol.{name as #reader·next-row}
-use Rattle.reader.proofs.next_row.Met as next-row-thm
-use Rattle.reader.proofs.step.Key.{name as #reader·step}
-use Rattle.reader.proofs.step as step
-use Rattle.reader.proofs.step.Statement as stated
-use Rattle.reader.proofs.step.Code as code
+use Rattle.table.specs.Row.{PartOf, NextOf}
+use Rattle.table.specs.declared.Reader.{Reader}
+use Rattle.table.proofs.Reader as T
+use Rattle.table.proofs.Reader.Laws as T′
+use Rattle.table.proofs.row_part as row-part
+use Rattle.table.proofs.row_part.Symbol as row-part-def
+use Rattle.table.proofs.row_part.Symbol.{name as #table·row-part}
+use Rattle.table.proofs.row_part.Met as row-part-thm
+use Rattle.table.proofs.next_row as next-row
+use Rattle.table.proofs.next_row.Symbol as next-row-def
+use Rattle.table.proofs.next_row.Symbol.{name as #table·next-row}
+use Rattle.table.proofs.next_row.Met as next-row-thm
+use Rattle.table.proofs.step.Key.{name as #table·step}
+use Rattle.table.proofs.step as step
+use Rattle.table.proofs.step.Statement as stated
+use Rattle.table.proofs.step.Code as code
 
 -- 'a, and the struct's type at it
 abbrev α : Lft → NamedLft
@@ -274,8 +274,8 @@ module _ {M : Type 1} (𝓤 : URA M) (H : Heap 𝓤) (A : Atoms 𝓤) (W : Given
       frame ! $ done !
 
   module _ (C : Calls 𝓤 H) (Λ : Loops 𝓤 H) (fm : FmC 𝓤 H (W .laws) C)
-      (known-part : Triple 𝓤 (C #reader·row-part) (RowPart 𝓤 H A at-mem run))
-      (known-next : Triple 𝓤 (C #reader·next-row) (NextRow 𝓤 H A at-mem run)) where
+      (known-part : Triple 𝓤 (C #table·row-part) (RowPart 𝓤 H A at-mem run))
+      (known-next : Triple 𝓤 (C #table·next-row) (NextRow 𝓤 H A at-mem run)) where
     walk : ent 𝓤 (onEntry 𝓤 H A step.signature (κ, (κ′, tt)) (q, (q′, tt)) x at)
         (WpFn 𝓤 H C Λ code.function (vptr b o ∷ []) Post)
     walk =
@@ -353,7 +353,7 @@ module _ {M : Type 1} (𝓤 : URA M) (H : Heap 𝓤) (A : Atoms 𝓤) (W : Given
 module _ {M : Type 1} (𝓤 : URA M) (H : Heap 𝓤) (A : Atoms 𝓤) (W : Given 𝓤 H A) (mem : Memory → SProp 𝓤)
     (run : Routine → Fun 𝓤) where
   step-walks : (C : Calls 𝓤 H) (Λ : Loops 𝓤 H) → FmC 𝓤 H (W .laws) C
-      → Triple 𝓤 (C #reader·row-part) (RowPart 𝓤 H A mem run) → Triple 𝓤 (C #reader·next-row) (NextRow 𝓤 H A mem run)
+      → Triple 𝓤 (C #table·row-part) (RowPart 𝓤 H A mem run) → Triple 𝓤 (C #table·next-row) (NextRow 𝓤 H A mem run)
       → Walks 𝓤 H A step.ended stayed (WpFn 𝓤 H C Λ code.function) (step.clauses 𝓤 H A mem run)
   step-walks C Λ fm known-part known-next =
       walked 𝓤 H A step.ended stayed (step.clauses 𝓤 H A mem run) (WpFn 𝓤 H C Λ code.function) (λ κs. (ptr-vals, tt))
@@ -364,8 +364,7 @@ module _ {M : Type 1} (𝓤 : URA M) (H : Heap 𝓤) (A : Atoms 𝓤) (W : Given
 
 step-meets : {M : Type 1} (𝓤 : URA M) (H : Heap 𝓤) (A : Atoms 𝓤) → Given 𝓤 H A
     → (mem : Memory → SProp 𝓤) (run : Routine → Fun 𝓤) (𝓣 : Tables 𝓤 H)
-    → Triple 𝓤 (𝓣 .C #reader·row-part) (RowPart 𝓤 H A mem run)
-    → Triple 𝓤 (𝓣 .C #reader·next-row) (NextRow 𝓤 H A mem run)
+    → Triple 𝓤 (𝓣 .C #table·row-part) (RowPart 𝓤 H A mem run) → Triple 𝓤 (𝓣 .C #table·next-row) (NextRow 𝓤 H A mem run)
     → Meets 𝓤 H A step.signature (WpFn 𝓤 H (𝓣 .C) (𝓣 .Λ) code.function) (step.spec 𝓤 H A mem run)
 step-meets 𝓤 H A W mem run 𝓣 known-part known-next =
     walk-meets 𝓤 H A step.ended stayed W (goes-ref 𝓤 H A W 2 0 tt behind, tt) (step.clauses 𝓤 H A mem run)
@@ -376,9 +375,9 @@ pub step-spec : {M : Type 1} → stated.statement M
 unfolding code.routine tablesOf
 step-spec 𝓤 H 𝓜 𝓖 𝓡 =
     entered 𝓤 H (tripleOf 𝓤 H (𝓖 .A) step.signature (step.spec 𝓤 H (𝓖 .A) (𝓜 .mem) (𝓡 .run)))
-    (tables 𝓤 H 𝓜 𝓡 code.env .C) (tables 𝓤 H 𝓜 𝓡 code.env .Λ) #reader·step code.function (code.unfolded 𝓤 H 𝓜 𝓡)
+    (tables 𝓤 H 𝓜 𝓡 code.env .C) (tables 𝓤 H 𝓜 𝓡 code.env .Λ) #table·step code.function (code.unfolded 𝓤 H 𝓜 𝓡)
     (step-meets 𝓤 H (𝓖 .A) (givenOf 𝓤 H 𝓜 𝓖) (𝓜 .mem) (𝓡 .run) (tablesOf 𝓤 H 𝓜 (tables 𝓤 H 𝓜 𝓡 code.env))
-    (cited 𝓤 H (RowPart 𝓤 H (𝓖 .A) (𝓜 .mem) (𝓡 .run)) 𝓜 𝓡 code.env #reader·row-part row-part-def.routine
-    code.calls-reader·row-part (row-part-thm.met 𝓤 H 𝓜 𝓖 𝓡))
-    (cited 𝓤 H (NextRow 𝓤 H (𝓖 .A) (𝓜 .mem) (𝓡 .run)) 𝓜 𝓡 code.env #reader·next-row next-row-def.routine
-    code.calls-reader·next-row (next-row-thm.met 𝓤 H 𝓜 𝓖 𝓡)))
+    (cited 𝓤 H (RowPart 𝓤 H (𝓖 .A) (𝓜 .mem) (𝓡 .run)) 𝓜 𝓡 code.env #table·row-part row-part-def.routine
+    code.calls-table·row-part (row-part-thm.met 𝓤 H 𝓜 𝓖 𝓡))
+    (cited 𝓤 H (NextRow 𝓤 H (𝓖 .A) (𝓜 .mem) (𝓡 .run)) 𝓜 𝓡 code.env #table·next-row next-row-def.routine
+    code.calls-table·next-row (next-row-thm.met 𝓤 H 𝓜 𝓖 𝓡)))

@@ -1,9 +1,9 @@
--- `reader::next_row` meets its contract: `stands` tells which of the two cases it is.
+-- `table::next_row` meets its contract: `stands` tells which of the two cases it is.
 use mathlib.Core.Path.{refl}
 use native.Mathlib.Omega.{arith}
 use borrow.Author.Needs.{needs}
-use Rattle.reader.proofs.next_row.Statement.{statement}
-use Rattle.reader.proofs.next_row.Tie as tie
+use Rattle.table.proofs.next_row.Statement.{statement}
+use Rattle.table.proofs.next_row.Tie as tie
 
 stands-requires : tie.Need-stands-requires
 stands-requires c κs = search needs

@@ -1,4 +1,4 @@
--- `reader::read_from` meets its contract: a walk of its MIR, by hand. `held` is called, and the struct is made of what
+-- `table::read_from` meets its contract: a walk of its MIR, by hand. `held` is called, and the struct is made of what
 -- it gives, at row 0.
 use mathlib.Core.Path.{refl, ap}
 use Prim.Native.Nat.{ℕ}
@@ -86,18 +86,18 @@ use denote.Triple.Spec.{Meets, tripleOf}
 use denote.Triple.Table.{entered, cited}
 use denote.Triple.Walked.{says, Stays, stay-none-slice, walkOf, goes-none-slice, Walks, ends-at, walked, walk-meets}
 use denote.Exit.{yes}
-use Rattle.reader.specs.Reader.{HeldOf}
-use Rattle.reader.specs.declared.Reader.{Reader}
-use Rattle.reader.proofs.Reader as T
-use Rattle.reader.proofs.Reader.Laws as T′
-use Rattle.reader.proofs.held as held
-use Rattle.reader.proofs.held.Symbol as held-def
-use Rattle.reader.proofs.held.Symbol.{name as #reader·held}
-use Rattle.reader.proofs.held.Met as held-thm
-use Rattle.reader.proofs.read_from.Key.{name as #reader·read-from}
-use Rattle.reader.proofs.read_from as read-from
-use Rattle.reader.proofs.read_from.Statement as stated
-use Rattle.reader.proofs.read_from.Code as code
+use Rattle.table.specs.Reader.{HeldOf}
+use Rattle.table.specs.declared.Reader.{Reader}
+use Rattle.table.proofs.Reader as T
+use Rattle.table.proofs.Reader.Laws as T′
+use Rattle.table.proofs.held as held
+use Rattle.table.proofs.held.Symbol as held-def
+use Rattle.table.proofs.held.Symbol.{name as #table·held}
+use Rattle.table.proofs.held.Met as held-thm
+use Rattle.table.proofs.read_from.Key.{name as #table·read-from}
+use Rattle.table.proofs.read_from as read-from
+use Rattle.table.proofs.read_from.Statement as stated
+use Rattle.table.proofs.read_from.Code as code
 
 abbrev stayed : Stays (read-from.ended .signature .params) (read-from.ended .kept)
 stayed = (stay-none-slice (0 ∷ []) tt (plain (λ _. u8)) yes, tt)
@@ -165,7 +165,7 @@ module _ {M : Type 1} (𝓤 : URA M) (H : Heap 𝓤) (A : Atoms 𝓤) (W : Given
       by ! (own-shut 𝓤 H A W (T.the-type α) (T′.the-laws α) (r, (0, tt)))
 
   module _ (C : Calls 𝓤 H) (Λ : Loops 𝓤 H) (fm : FmC 𝓤 H (W .laws) C)
-      (known : Triple 𝓤 (C #reader·held) (Held 𝓤 H A at-mem run)) where
+      (known : Triple 𝓤 (C #table·held) (Held 𝓤 H A at-mem run)) where
     walk : Is Part s (v s ∷ [])
         → ent 𝓤 (onEntry 𝓤 H A read-from.signature (κ, tt) (q, tt) (s, tt) at)
         (WpFn 𝓤 H C Λ code.function (v s ∷ []) Post)
@@ -196,7 +196,7 @@ module _ {M : Type 1} (𝓤 : URA M) (H : Heap 𝓤) (A : Atoms 𝓤) (W : Given
 module _ {M : Type 1} (𝓤 : URA M) (H : Heap 𝓤) (A : Atoms 𝓤) (W : Given 𝓤 H A) (mem : Memory → SProp 𝓤)
     (run : Routine → Fun 𝓤) where
   read-from-walks : (C : Calls 𝓤 H) (Λ : Loops 𝓤 H) → FmC 𝓤 H (W .laws) C
-      → Triple 𝓤 (C #reader·held) (Held 𝓤 H A mem run)
+      → Triple 𝓤 (C #table·held) (Held 𝓤 H A mem run)
       → Walks 𝓤 H A read-from.ended stayed (WpFn 𝓤 H C Λ code.function) (read-from.clauses 𝓤 H A mem run)
   read-from-walks C Λ fm known =
       walked 𝓤 H A read-from.ended stayed (read-from.clauses 𝓤 H A mem run) (WpFn 𝓤 H C Λ code.function)
@@ -206,7 +206,7 @@ module _ {M : Type 1} (𝓤 : URA M) (H : Heap 𝓤) (A : Atoms 𝓤) (W : Given
 
 read-from-meets : {M : Type 1} (𝓤 : URA M) (H : Heap 𝓤) (A : Atoms 𝓤) → Given 𝓤 H A
     → (mem : Memory → SProp 𝓤) (run : Routine → Fun 𝓤) (𝓣 : Tables 𝓤 H)
-    → Triple 𝓤 (𝓣 .C #reader·held) (Held 𝓤 H A mem run)
+    → Triple 𝓤 (𝓣 .C #table·held) (Held 𝓤 H A mem run)
     → Meets 𝓤 H A read-from.signature (WpFn 𝓤 H (𝓣 .C) (𝓣 .Λ) code.function) (read-from.spec 𝓤 H A mem run)
 read-from-meets 𝓤 H A W mem run 𝓣 known =
     walk-meets 𝓤 H A read-from.ended stayed W (goes-none-slice 𝓤 H A W 1 (0 ∷ []) tt (plain (λ _. u8)) yes, tt)
@@ -217,7 +217,7 @@ pub read-from-spec : {M : Type 1} → stated.statement M
 unfolding code.routine tablesOf
 read-from-spec 𝓤 H 𝓜 𝓖 𝓡 =
     entered 𝓤 H (tripleOf 𝓤 H (𝓖 .A) read-from.signature (read-from.spec 𝓤 H (𝓖 .A) (𝓜 .mem) (𝓡 .run)))
-    (tables 𝓤 H 𝓜 𝓡 code.env .C) (tables 𝓤 H 𝓜 𝓡 code.env .Λ) #reader·read-from code.function (code.unfolded 𝓤 H 𝓜 𝓡)
+    (tables 𝓤 H 𝓜 𝓡 code.env .C) (tables 𝓤 H 𝓜 𝓡 code.env .Λ) #table·read-from code.function (code.unfolded 𝓤 H 𝓜 𝓡)
     (read-from-meets 𝓤 H (𝓖 .A) (givenOf 𝓤 H 𝓜 𝓖) (𝓜 .mem) (𝓡 .run) (tablesOf 𝓤 H 𝓜 (tables 𝓤 H 𝓜 𝓡 code.env))
-    (cited 𝓤 H (Held 𝓤 H (𝓖 .A) (𝓜 .mem) (𝓡 .run)) 𝓜 𝓡 code.env #reader·held held-def.routine code.calls-reader·held
+    (cited 𝓤 H (Held 𝓤 H (𝓖 .A) (𝓜 .mem) (𝓡 .run)) 𝓜 𝓡 code.env #table·held held-def.routine code.calls-table·held
     (held-thm.met 𝓤 H 𝓜 𝓖 𝓡)))

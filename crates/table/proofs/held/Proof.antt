@@ -1,16 +1,12 @@
--- `reader::held` meets its contract: a refused header gives the empty part at the table's own place, an opened one the
+-- `table::held` meets its contract: a refused header gives the empty part at the table's own place, an opened one the
 -- whole table.
-use Rattle.table.proofs.Accepted.{opened, refused-header, past-header}
-use lib.ListN.{length}
-use lib.Seq.{take-all}
+use Rattle.table.proofs.Accepted.{opened, refused-header, past-header, take-all}
 use mathlib.Core.List.{[]}
-use Prim.Native.Nat.{_-_}
-use native.Mathlib.Omega.{arith}
 use native.Mathlib.Nat.{zero-add}
 use mathlib.Core.Path.{refl}
 use borrow.Author.Needs.{needs}
-use Rattle.reader.proofs.held.Statement.{statement}
-use Rattle.reader.proofs.held.Tie as tie
+use Rattle.table.proofs.held.Statement.{statement}
+use Rattle.table.proofs.held.Tie as tie
 
 open-table-requires : tie.Need-open-table-requires
 open-table-requires c κs = search needs
@@ -56,7 +52,7 @@ returns-2 c =
       own = rw zero-add refl;
       bytes = past-header (λ _ _. []) {s = args .s .now}
           (opened (args .s .now) _ _ (rw (c .before .enum-told2 .given .1) at open-table-ensures) .0)
-          (take-all (length (args .s .now) - 0) (args .s .now) (omega arith));
+          (take-all (args .s .now));
     }
 
 pub held-spec : {M : Type 1} → statement M

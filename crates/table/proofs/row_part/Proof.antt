@@ -1,12 +1,12 @@
--- `reader::row_part` meets its contract. Where the row stands, its 12 bytes are the part from 12 + 12 r on, which lies
+-- `table::row_part` meets its contract. Where the row stands, its 12 bytes are the part from 12 + 12 r on, which lies
 -- that far into the table and within it (`row-stands`); else the part is empty and lies where the table does.
 use Prim.Native.Nat.{_*_, _+_, _-_}
 use mathlib.Core.Path.{_≡_, refl}
 use Rattle.table.specs.Row.{Stands}
 use native.Mathlib.Omega.{arith}
 use borrow.Author.Needs.{needs}
-use Rattle.reader.proofs.row_part.Statement.{statement}
-use Rattle.reader.proofs.row_part.Tie as tie
+use Rattle.table.proofs.row_part.Statement.{statement}
+use Rattle.table.proofs.row_part.Tie as tie
 
 stands-requires : tie.Need-stands-requires
 stands-requires c κs = search needs

@@ -2,8 +2,8 @@
 use mathlib.Core.Path.{_≡_}
 use mathlib.Core.List.{List, []}
 use Prim.Native.Nat.{ℕ}
 use Rattle.table.specs.Header.{Header}
-use Rattle.reader.specs.Part.{PartOf, NextOf}
+use Rattle.table.specs.Row.{PartOf, NextOf}
 
 -- what a reader holds of the table s, which lies at `home`: all of it, or where the header is refused an empty part;
 -- and where that lies

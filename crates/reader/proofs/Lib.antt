@@ -1,2 +1,0 @@
--- That each promise of the reader allows one outcome.
-pub mod Only

@@ -1,3 +1,0 @@
--- What a reader must believe of this crate.
-pub mod Part
-pub mod Reader
