@@ -8,7 +8,8 @@ use lib.IntN.{ℤ}
 use Rattle.table.specs.Refuse.{Unless}
 use Rattle.tree.specs.Accept.{Accepts, acceptanceRefusal}
 use Rattle.tree.specs.declared.Acceptance.{Acceptance}
-use Rattle.tree.proofs.Outcomes.{Told, by-unless, by-beginning}
+use Rattle.table.proofs.Refusals.{by-unless}
+use Rattle.tree.proofs.Begins.{Told, by-beginning}
 use Rattle.spines.specs.Heads.{Heads, Headings, headsRefusal}
 use Rattle.spines.specs.declared.HeadsAnswer.{HeadsAnswer}
 use Rattle.spines.specs.declared.HeadsAnswer.the-variants as heads

@@ -25,6 +25,8 @@ use Rattle.table.proofs.Refusals.{
   unless-only,
   unless-map,
   first-bad-map,
+  by-unless,
+  by-rows,
 }
 
 -- what a header that is not refused has
@@ -140,6 +142,20 @@ pub tested-map : {A B : Type 0} (f : A → B) (refuse : ℕ → ℕ → A) (s : 
     → Tested B (λ k r. f (refuse k r)) s rest′ (f x)
 tested-map f refuse s g p =
     header-map f refuse s (λ h. first-bad-map f (λ rows. g (good-table h rows))) p
+
+-- what holds of each refusal of 1 to 10, whose row is below 4,096, and of what follows, holds of the outcome
+pub by-tested : {A : Type 0} (C : A → Type 0) (refuse : ℕ → ℕ → A) (s : List ℕ) {rest : A → Type 0}
+    → ((k r : ℕ) → r < 4096 → C (refuse k r)) → (nodesOf s ≤ 4096 → (x : A) → rest x → C x) → {x : A}
+    → Tested A refuse s rest x → C x
+by-tested C refuse s h f p =
+    by-unless C (h 1 0 (omega arith))
+    (λ _ _. by-unless C (h 2 0 (omega arith))
+    (λ _ _. by-unless C (h 3 0 (omega arith))
+    (λ _ _. by-unless C (h 4 0 (omega arith))
+    (λ n _. by-unless C (h 5 0 (omega arith))
+    (λ _ _. by-unless C (h 6 0 (omega arith))
+    (λ _ _. by-rows C (λ k r l _. h k r (omega (arith, n .1))) (f (n .1))))))))
+    p
 
 -- an opened table's two numbers, and that it is no refusal
 abbrev nodesIn : Opening → ℕ

@@ -1,6 +1,6 @@
 -- Laws of the forms of refusal: each allows one outcome where its rest does; an outcome that is not the refusal has
 -- passed; a refusal stays one when the outcome's type changes, by a function that takes refusals to refusals, and when
--- the good condition is said in other words.
+-- the good condition is said in other words; and what holds of the refusal and of what follows holds of the outcome.
 use mathlib.Core.Path.{_≡_, refl}
 use Prim.Native.Nat.{ℕ, _<_}
 use native.Mathlib.Decide.{decLt}
@@ -64,3 +64,16 @@ pub first-bad-map : {A B : Type 0} (f : A → B) {refusal : ℕ → ℕ → A} {
     → FirstBad A refusal m Number rest x → FirstBad B (λ k r. f (refusal k r)) m Number rest′ (f x)
 first-bad-map f g (bad r k l before is not) = bad r k l before is not
 first-bad-map f g (fine all p) = fine all (g all p)
+
+-- what holds of the refusal, or of each row's, and of what follows, holds of the outcome
+module _ {A : Type 0} (C : A → Type 0) where
+  pub by-unless : {no : A} {Ok : Type 0} {rest : A → Type 0} → C no → (Ok → (x : A) → rest x → C x) → {x : A}
+      → Unless A no Ok rest x → C x
+  by-unless a f (refused n) = a
+  by-unless a f (passed o r) = f o _ r
+
+  pub by-rows : {refusal : ℕ → ℕ → A} {m : ℕ} {Number : ℕ → ℕ → Type 0} {rest : A → Type 0}
+      → ((k r : ℕ) → r < m → Number r k → C (refusal k r)) → ((x : A) → rest x → C x) → {x : A}
+      → FirstBad A refusal m Number rest x → C x
+  by-rows a f (bad r k l _ is _) = a k r l is
+  by-rows a f (fine _ r) = f _ r

@@ -1,10 +1,10 @@
 -- Acceptance: from the ring test and the walk to refusals 11 and 12; what an accepted table has; how an operation that
 -- begins with 1 to 12 hands a refusal on or goes on, seen through a function or said otherwise; that two such promises
--- give equal outcomes where what follows does, so that each allows one and refuses what acceptance does. What 1 to 12
--- are is taken apart here, in Outcomes and in Eleven, and in no crate above.
-use Prim.Native.Nat.{ℕ, _-_, _≤_, _<_}
+-- give equal outcomes where what follows does, so that each allows one and refuses what acceptance does; and what the
+-- numbers of such a refusal are. What 1 to 12 are is taken apart here, 1 to 10 in table's Accepted, and nowhere above.
+use Prim.Native.Nat.{ℕ, _+_, _-_, _≤_, _<_}
 use mathlib.Core.Path.{_≡_, refl, sym, ap, _∙_}
-use mathlib.Core.Logic.{_⊎_, inl, inr}
+use mathlib.Core.Logic.{_⊎_, inl, inr, _≢_}
 use mathlib.Core.List.{List}
 use native.Mathlib.Omega.{arith}
 use Rattle.table.specs.Refuse.{refused, passed, bad, fine, Only}
@@ -13,8 +13,8 @@ use Rattle.table.specs.Opens.{openingRefusal, Examines}
 use Rattle.table.specs.declared.Refusal as why
 use Rattle.table.specs.declared.Opening.{Opening}
 use Rattle.table.specs.declared.Opening.the-variants as opening
-use Rattle.table.proofs.Refusals.{past, past-rows, settled, unless-only, unless-map, first-bad-map}
-use Rattle.table.proofs.Accepted.{GoodTable, accepted, tested-past, tested-map, tested-rest}
+use Rattle.table.proofs.Refusals.{past, past-rows, settled, unless-only, unless-map, first-bad-map, by-unless, by-rows}
+use Rattle.table.proofs.Accepted.{GoodTable, accepted, tested-past, tested-map, tested-rest, by-tested}
 use Rattle.table.proofs.Accepted as table
 use Rattle.table.proofs.Only.{tested-only}
 use Rattle.net.specs.work.Forest.{Forest}
@@ -25,11 +25,12 @@ use Rattle.tree.specs.Accept.{Rings, Begins, acceptanceRefusal, Accepts}
 use Rattle.net.specs.work.Rows.{Readable, Fitting, Closing}
 use Rattle.ring.specs.work.Union.{FirstRing}
 use Rattle.reach.specs.work.Queue.{Reaches}
+use Rattle.tree.specs.work.Why.{whyOf}
 use Rattle.tree.specs.declared.Refusal.{Refusal}
 use Rattle.tree.specs.declared.Acceptance.{Acceptance}
 use Rattle.tree.specs.declared.Acceptance.the-variants.{Accepted, Refused}
 use Rattle.reach.proofs.Grown.{reached-all, all-joined}
-use Rattle.net.proofs.RingRows.{row-open, rows-open, open-rows, rings-only, rings-settled}
+use Rattle.net.proofs.RingRows.{row-open, rows-open, open-rows, rings-only, rings-settled, most-rows}
 
 -- an accepted net's two numbers, and that it is no refusal
 abbrev nodesIn : Acceptance → ℕ
@@ -262,3 +263,49 @@ refused-alike refuse s {x = x} k r g p q =
 
 pub accept-only : (s : List ℕ) → Only (Accepts s)
 accept-only s = begins-only acceptanceRefusal s (λ x y p q. p ∙ sym q)
+
+-- What the three numbers of a refusal of 1 to 12 are: a row below 4,096, or none; a ring of no more rows than there are
+-- up to the row named, and of 11 alone
+pub record Told (k r g : ℕ) : Type 0 where
+  pub low : r < 4096
+  pub few : g ≤ r + 1
+  pub alone : k ≢ 11 → g ≡ 0
+
+-- and what holds of each such refusal, and of what follows, holds of the outcome
+pub by-beginning : {A : Type 0} (C : A → Type 0) (refuse : ℕ → ℕ → ℕ → A) (s : List ℕ) {rest : A → Type 0}
+    → ((k r g : ℕ) → Told k r g → C (refuse k r g)) → ((x : A) → rest x → C x) → {x : A} → Begins A refuse s rest x
+    → C x
+by-beginning C refuse s h f p =
+    by-tested C (λ k r. refuse k r 0) s (λ k r l. h k r 0 (named k r l))
+    (λ n _. by-rows C (λ g r l q. h 11 r g (ringed n l (most-rows _ _ q)))
+    (λ _. by-unless C (h 12 0 0 (named 12 0 (omega arith))) (λ _. f)))
+    p
+  where
+    named : (k r : ℕ) → r < 4096 → Told k r 0
+    named k r l = record { low = l; few = omega arith; alone = λ _. refl }
+
+    ringed : {n r g : ℕ} → n ≤ 4096 → r < n - 1 → g ≤ r + 1 → Told 11 r g
+    ringed few l m = record { low = omega arith; few = m; alone = λ n. absurd (n refl) }
+
+-- where 11 is given, 1 to 10 refuse nothing, and the row named is the first that closes a ring, with its number
+pub record Closer (s : List ℕ) (r g : ℕ) : Type 0 where
+  pub good : GoodTable s
+  pub below : r < nodesOf s - 1
+  pub before : Forest (firstEnd s) (secondEnd s) r
+  pub number : RingRows (firstEnd s) (secondEnd s) r g
+  pub some : g ≡ 0 → ⊥
+
+module _ (s : List ℕ) where
+  eleven : (x : Acceptance) → whyOf x .number ≡ 11 → GoodTable s
+      → Rings Acceptance acceptanceRefusal s (nodesOf s) (λ x. x ≡ Accepted (nodesOf s) (boundOf s)) x
+      → Closer s (whyOf x .row) (whyOf x .ring)
+  eleven x e t (bad r k l before is not) =
+      record { good = t; below = l; before = rows-open (firstEnd s) (secondEnd s) before; number = is; some = not }
+  eleven x e t (fine all (refused c)) = absurd (omega arith)
+  eleven x e t (fine all (passed w p)) = absurd (omega (arith, ap (λ (o : Acceptance). whyOf o .number) p))
+
+  pub closer : (r g : ℕ) → Accepts s (acceptanceRefusal 11 r g) → Closer s r g
+  closer r g p =
+      let t = tested-past (λ k r. acceptanceRefusal k r 0) s
+      (λ k q _ l e. omega (arith, l, ap (λ (o : Acceptance). whyOf o .number) e)) p in
+      eleven (acceptanceRefusal 11 r g) refl (t .0) (t .1)

@@ -2,30 +2,26 @@
 -- some row closes one, and so there is a first; and where 11 is given, the row named closes a ring with those before
 -- it.
 use Prim.Native.Nat.{ℕ, zero, suc, _+_, _-_, _≤_, _<_}
-use mathlib.Core.Path.{_≡_, refl, ap}
+use mathlib.Core.Path.{_≡_}
 use mathlib.Core.Logic.{_⊎_, inl, inr, _≢_, _↔_}
 use mathlib.Core.List.{List}
 use native.Mathlib.Omega.{arith}
 use native.Mathlib.Decide.{ℕ-discrete}
 use lib.ListN.{length}
-use Rattle.table.specs.Refuse.{refused, passed, bad, fine}
 use Rattle.table.specs.Header.{nodesOf, boundOf}
-use Rattle.table.proofs.Accepted.{GoodTable, accepted, passed-on, tested-past}
+use Rattle.table.proofs.Accepted.{GoodTable, accepted, passed-on}
 use Rattle.arrays.specs.Members.{In}
 use Rattle.net.specs.Graph.{Ends, RingAt, Ring}
 use Rattle.net.specs.work.Forest.{Forest}
 use Rattle.net.specs.Net.{firstEnd, secondEnd}
 use Rattle.net.specs.Ring.{RingRows}
-use Rattle.tree.specs.Accept.{acceptanceRefusal, Rings, Accepts}
-use Rattle.tree.specs.work.Why.{whyOf}
-use Rattle.tree.specs.declared.Acceptance.{Acceptance}
-use Rattle.tree.specs.declared.Acceptance.the-variants.{Accepted}
+use Rattle.tree.specs.Accept.{acceptanceRefusal, Accepts}
 use Rattle.net.proofs.Rows.{Closes}
 use Rattle.net.proofs.Labels.{joined?}
 use Rattle.net.proofs.RingExactly.{ring-closes, closes-ring}
-use Rattle.net.proofs.RingRows.{rows-open, row-closed, row-number, most-rows, ring-of, two-rows, repeated}
+use Rattle.net.proofs.RingRows.{row-closed, row-number, most-rows, ring-of, two-rows, repeated}
 use Rattle.net.proofs.OneRing.{one-ring}
-use Rattle.tree.proofs.Begins.{rings-bad}
+use Rattle.tree.proofs.Begins.{rings-bad, closer}
 
 ends-differ : (s : List ℕ) → GoodTable s → (r : ℕ) → r < nodesOf s - 1 → firstEnd s r ≢ secondEnd s r
 unfolding firstEnd secondEnd
@@ -76,33 +72,11 @@ ring-refused s g o = pick (first-of s (nodesOf s - 1)) (ring-closes (firstEnd s)
           first-refused s g (t .0) (n .0) (t .1) (t .2) (n .1) (n .2),
         )
 
--- where 11 is given, 1 to 10 refuse nothing, and the row named is the first that closes a ring, with its number
-pub record Closer (s : List ℕ) (r g : ℕ) : Type 0 where
-  pub good : GoodTable s
-  pub below : r < nodesOf s - 1
-  pub before : Forest (firstEnd s) (secondEnd s) r
-  pub number : RingRows (firstEnd s) (secondEnd s) r g
-  pub some : g ≡ 0 → ⊥
-
 module _ (s : List ℕ) where
-  eleven : (x : Acceptance) → whyOf x .number ≡ 11 → GoodTable s
-      → Rings Acceptance acceptanceRefusal s (nodesOf s) (λ x. x ≡ Accepted (nodesOf s) (boundOf s)) x
-      → Closer s (whyOf x .row) (whyOf x .ring)
-  eleven x e t (bad r k l before is not) =
-      record { good = t; below = l; before = rows-open (firstEnd s) (secondEnd s) before; number = is; some = not }
-  eleven x e t (fine all (refused c)) = absurd (omega arith)
-  eleven x e t (fine all (passed w p)) = absurd (omega (arith, ap (λ (o : Acceptance). whyOf o .number) p))
-
-  pub closer : (r g : ℕ) → Accepts s (acceptanceRefusal 11 r g) → Closer s r g
-  closer r g p =
-      let t = tested-past (λ k r. acceptanceRefusal k r 0) s
-      (λ k q _ l e. omega (arith, l, ap (λ (o : Acceptance). whyOf o .number) e)) p in
-      eleven (acceptanceRefusal 11 r g) refl (t .0) (t .1)
-
   pub refused-ring : (r : ℕ) × (g : ℕ) × Accepts s (acceptanceRefusal 11 r g)
       → Ring (firstEnd s) (secondEnd s) (nodesOf s - 1)
   refused-ring q =
-      let c = closer (q .0) (q .1) (q .2) in
+      let c = closer s (q .0) (q .1) (q .2) in
       let p = row-closed (firstEnd s) (secondEnd s) (c .number) (c .some) in
       closes-ring (firstEnd s) (secondEnd s) (ends-differ s (c .good)) (q .0, c .below, (p .0, p .1 .0, p .1 .1))
 
@@ -110,20 +84,20 @@ module _ (s : List ℕ) where
   module _ (r g : ℕ) (p : Accepts s (acceptanceRefusal 11 r g)) where
     pub ring-counted : (o : Ring (firstEnd s) (secondEnd s) (r + 1)) × In r (o .rs) × (length (o .rs) ≡ g)
     ring-counted =
-        let c = closer r g p in
+        let c = closer s r g p in
         ring-of (firstEnd s) (secondEnd s) (ends-differ s (c .good) r (c .below)) (c .number) (c .some)
 
     pub ring-one : (o : Ring (firstEnd s) (secondEnd s) (r + 1)) → length (o .rs) ≡ g
-    ring-one = let c = closer r g p in one-ring (firstEnd s) (secondEnd s) (c .before) (c .number)
+    ring-one = let c = closer s r g p in one-ring (firstEnd s) (secondEnd s) (c .before) (c .number)
 
     pub ring-bounds : (2 ≤ g) × (g ≤ r + 1)
     ring-bounds =
-        let c = closer r g p in (
+        let c = closer s r g p in (
           two-rows (firstEnd s) (secondEnd s) (ends-differ s (c .good) r (c .below)) (c .number) (c .some),
           most-rows (firstEnd s) (secondEnd s) (c .number),
         )
 
     pub ring-repeat : (g ≡ 2) ↔ ((q : ℕ) × (q < r) × Ends (firstEnd s) (secondEnd s) q (firstEnd s r) (secondEnd s r))
     ring-repeat =
-        let c = closer r g p in
+        let c = closer s r g p in
         repeated (firstEnd s) (secondEnd s) (ends-differ s (c .good) r (c .below)) (c .number) (c .some) (c .before)

@@ -1,5 +1,4 @@
 -- Laws of acceptance, by topic, for this crate and those above.
-pub mod Outcomes
 pub mod Around
 pub mod Begins
 pub mod Eleven

@@ -20,7 +20,7 @@ use Rattle.net.specs.work.Rooted.{Above}
 use Rattle.reach.specs.work.Walked.{Walked}
 use Rattle.net.proofs.RingExactly.{forest-iff}
 use Rattle.net.proofs.OnePath.{unique}
-use Rattle.tree.proofs.Outcomes.{by-beginning}
+use Rattle.tree.proofs.Begins.{by-beginning}
 use Rattle.tree.proofs.Begins as begins
 use Rattle.tree.proofs.Eleven.{ring-refused, refused-ring}
 use Rattle.tree.proofs.Eleven as eleven
