@@ -1,5 +1,5 @@
--- Union by rank: what its loop keeps of the rows before row r, and that one row more keeps it. And that the row found is
--- one.
+-- Union by rank: what its loop keeps of the rows before row r, and that one row more keeps it; and that one row only is
+-- the first.
 use Prim.Native.Nat.{ℕ, suc, _+_, _≤_, _<_}
 use mathlib.Core.Path.{_≡_, refl, sym, ap, _∙_}
 use mathlib.Core.Logic.{_⊎_, inl, inr, _≢_}
