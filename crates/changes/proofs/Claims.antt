@@ -1,6 +1,6 @@
 -- Claim over a walk: the climbs of the two nodes up to where they meet make the path, so what was measured and taken on
 -- them is the path's.
-use mathlib.Core.Path.{_≡_, refl, sym, _∙_}
+use mathlib.Core.Path.{_≡_, sym, _∙_}
 use mathlib.Core.Logic.{_≢_}
 use mathlib.Core.List.{List, _++_}
 use Prim.Native.Nat.{ℕ, _+_, _-_, _≤_, _<_}

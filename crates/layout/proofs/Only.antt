@@ -1,6 +1,6 @@
 -- What `heaviest_pair` promises allows one outcome: a pair of nodes has one length and one weight, so it is carried in
 -- one way.
-use Prim.Native.Nat.{ℕ, _+_, _≤_}
+use Prim.Native.Nat.{ℕ}
 use mathlib.Core.Path.{_≡_, sym, ap, _∙_}
 use mathlib.Core.Logic.{_⊎_, inl, inr}
 use mathlib.Core.List.{List}

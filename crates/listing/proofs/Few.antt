@@ -1,7 +1,7 @@
 -- What a page gives and leaves over is bounded. Together they are at most 4,096 × 4,096, for pairs of nodes below 4,096
 -- rise; and the rows given stand in the lent bytes.
 use Prim.Native.Nat.{ℕ, _+_, _*_, _≤_, _<_}
-use mathlib.Core.Path.{_≡_, refl, ap}
+use mathlib.Core.Path.{refl, ap}
 use mathlib.Core.List.{List, [], _∷_}
 use native.Mathlib.Omega.{arith}
 use lib.IntN.{ℤ}

@@ -1,6 +1,6 @@
 -- From the outcomes of acceptance, heaviest and the first page to the whole report: it is there, and it is short.
 use Prim.Native.Nat.{ℕ, zero, suc, _+_, _-_, _≤_, _<_}
-use mathlib.Core.Path.{_≡_, refl, sym, ap, _∙_}
+use mathlib.Core.Path.{_≡_, refl, ap, _∙_}
 use mathlib.Core.Bool.{true, true≢false}
 use mathlib.Core.List.{List, _∷_, _++_}
 use native.Mathlib.Omega.{arith}
@@ -17,11 +17,11 @@ use Rattle.pages.specs.Listing.{Entry, entry, Listing}
 use Rattle.pages.specs.Passes.{Passes}
 use Rattle.pages.proofs.Pages.{whole-follows}
 use Rattle.ground.specs.PathOf.{PathOf}
-use Rattle.heaviest.specs.Heaviest.{heaviestRefusal, HeaviestOf, Heaviest}
+use Rattle.heaviest.specs.Heaviest.{heaviestRefusal, HeaviestOf}
 use Rattle.heaviest.specs.declared.HeaviestAnswer.{HeaviestAnswer}
 use Rattle.heaviest.specs.declared.HeaviestAnswer.the-variants.{Between}
 use Rattle.ground.proofs.Bounds.{passes-fits}
-use Rattle.heaviest.proofs.Demand2.{InReach, found-best}
+use Rattle.heaviest.proofs.Demand2.{found-best}
 use Rattle.text.specs.work.Put.{Put}
 use Rattle.lines.specs.Lines.{refusedText, netText, bestText, pairsText, totalText}
 use Rattle.reporting.specs.Report.{allFree, Weighing, refused, none, lines, Rest}

@@ -1,7 +1,7 @@
 -- The sweep of commit and abort: the places that hold one mark.
 use mathlib.Core.Path.{_≡_}
 use mathlib.Core.List.{List}
-use Prim.Native.Nat.{ℕ, _-_, _<_}
+use Prim.Native.Nat.{ℕ, _<_}
 use lib.ListN.{length}
 use Rattle.arrays.specs.At.{at}
 

@@ -1,6 +1,5 @@
 -- `heaviest::search` meets its contract: the walk and the branches are the ground of the accepted net, and what the
 -- lists give of any ground they give of this one.
-use native.Mathlib.Omega.{arith}
 use borrow.Author.Needs.{needs}
 use Rattle.ground.proofs.Branching.{ground}
 use Rattle.heaviest.proofs.search.Statement.{statement}

@@ -5,7 +5,6 @@ use Prim.Native.Nat.{ℕ, min}
 use Rattle.arrays.specs.At.{at}
 use Rattle.table.specs.work.Lift.{LiftedOf}
 use Rattle.marks.specs.Mark.{Free}
-use Rattle.marks.specs.Weighs.{lesser}
 use Rattle.table.specs.work.Lift.{rowLift}
 
 -- the same lifted by 1,000,000: a free row's own lift, a marked one's the lesser of that and 1,000,000. A row without a

@@ -2,7 +2,6 @@
 use Prim.Native.Nat.{ℕ, _≤_}
 use lib.IntN.{ℤ, subℕ}
 use lib.Signed.{_≤ℤ_}
-use Rattle.arrays.specs.At.{at}
 use Rattle.table.specs.work.Diff.{Diff}
 use Rattle.table.specs.work.Lift.{sumLift}
 

@@ -2,8 +2,7 @@
 use Prim.Native.Nat.{_<_}
 use mir.Syntax.{w64}
 use mir.Val.{SFits}
-use Rattle.pages.specs.Listing.{Entry, entry}
-use Rattle.pages.specs.Bytes.{row}
+use Rattle.pages.specs.Listing.{Entry}
 
 -- an entry whose numbers fit their places in a row
 pub record RowFits (e : Entry) : Type 0 where

@@ -1,8 +1,7 @@
 -- The path between two nodes as the sweep finds it, its weight lifted.
-use Prim.Native.Nat.{ℕ, _-_, _<_}
+use Prim.Native.Nat.{ℕ, _<_}
 use mathlib.Core.List.{List}
 use lib.IntN.{ℤ}
-use lib.ListN.{length}
 use Rattle.table.specs.work.Diff.{Diff}
 use Rattle.paths.specs.work.Ground.{Ground}
 use Rattle.ground.specs.work.Grounded.{ValueIn}

@@ -3,7 +3,6 @@
 use Rattle.table.specs.Refuse.{refused, passed}
 use Rattle.marks.specs.Mark.{RunNumber}
 use Rattle.changes.proofs.Changed.{holds-held}
-use mathlib.Core.Path.{refl}
 use native.Mathlib.Omega.{arith}
 use borrow.Author.Needs.{needs}
 use Rattle.changes.proofs.settle.settle_net.Statement.{statement}

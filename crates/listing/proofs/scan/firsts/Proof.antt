@@ -1,6 +1,6 @@
 -- `listing::scan::firsts` takes the first nodes in turn. The invariant: the page so far has all that follows the start
 -- with a first node below u.
-use Prim.Native.Nat.{_-_, _≤_}
+use Prim.Native.Nat.{_-_}
 use mathlib.Core.Path.{refl}
 use native.Mathlib.Omega.{arith}
 use borrow.Author.Needs.{needs}
