@@ -23,7 +23,7 @@ use Rattle.net.proofs.Counts.{count-same, count-unique, count-some}
 use Rattle.marks.specs.Mark.{free, HeldBy, RunNumber}
 use Rattle.changes.specs.Change.{Changes, Done}
 use Rattle.changes.specs.declared.Change.the-variants.{Changed, Refused}
-use Rattle.changes.specs.Claim.{Between, InReach, Taken}
+use Rattle.changes.specs.Claim.{PathBetween, InReach, Taken}
 use Rattle.changes.specs.work.Replace.{HoldsOld}
 use Rattle.changes.specs.work.Climbs.{one-free, Frees, Held}
 use Rattle.changes.proofs.Rises.{Whole}
@@ -72,10 +72,11 @@ count-has {P} {k} c m = pick (c .list) (c .long) (c .only)
 
 -- The path between two nodes of an accepted net
 module _ {s : List ℕ} {n a b : ℕ} (N : Net s n) where
-  same-rows : {rs qs : List ℕ} → Between s n a rs b → Between s n a qs b → rs ≡ qs
+  same-rows : {rs qs : List ℕ} → PathBetween s n a rs b → PathBetween s n a qs b → rs ≡ qs
   same-rows p q = unique (firstEnd s) (secondEnd s) (N .forest) (p .1) (q .1) (p .2) (q .2) .0
 
-  pub in-reach : {bound : ℕ} {rs : List ℕ} → Between s n a rs b → InReach s n bound a b → Sum (lengthOf s) rs ≤ bound
+  pub in-reach : {bound : ℕ} {rs : List ℕ} → PathBetween s n a rs b → InReach s n bound a b
+      → Sum (lengthOf s) rs ≤ bound
   in-reach p i = rw (same-rows p (i .path)) (i .short)
 
   module _ {par row place : ℕ → ℕ} {R : Rooted (firstEnd s) (secondEnd s) (n - 1) n par row place} (before : List ℕ)

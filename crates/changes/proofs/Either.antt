@@ -14,7 +14,7 @@ use Rattle.net.proofs.Counts.{count-same}
 use Rattle.changes.specs.Change.{Done}
 use Rattle.changes.specs.declared.Change.{Change}
 use Rattle.changes.specs.declared.Change.the-variants.{Changed, Refused}
-use Rattle.changes.specs.Claim.{Between, InReach, Taken, Ended}
+use Rattle.changes.specs.Claim.{PathBetween, InReach, Taken, Ended}
 
 -- 1 at r, and 0 elsewhere: a list's sum of it tells whether r is in it
 abbrev one-at : ℕ → ℕ → ℕ
@@ -33,8 +33,8 @@ sum-in r (q ∷ rs) l = pick (ℕ-discrete r q) (sum-in r rs)
     pick (no n) ih = past (ih (omega (arith, n, l)))
 
 -- the path from b to a, of the one from a to b
-back : (s : List ℕ) (n : ℕ) {a b : ℕ} {rs : List ℕ} → Between s n a rs b
-    → (qs : List ℕ) × Between s n b qs a × ((f : ℕ → ℕ) → Sum f qs ≡ Sum f rs)
+back : (s : List ℕ) (n : ℕ) {a b : ℕ} {rs : List ℕ} → PathBetween s n a rs b
+    → (qs : List ℕ) × PathBetween s n b qs a × ((f : ℕ → ℕ) → Sum f qs ≡ Sum f rs)
 back s n p = let f = flip (firstEnd s) (secondEnd s) (p .1) in (f .rows, (f .nodes, f .walk, f .once (p .2)), f .sum)
 
 module _ {s : List ℕ} {n a b : ℕ} where

@@ -13,19 +13,19 @@ use Rattle.changes.specs.declared.Change.{Change}
 use Rattle.changes.specs.Change.{changeRefusal, Done, MarksAndRun}
 
 -- the rows rs are the path between a and b in a net of n nodes
-abbrev pub Between : List ℕ → ℕ → ℕ → List ℕ → ℕ → Type 0
-Between s n a rs b = Path (firstEnd s) (secondEnd s) (n - 1) a rs b
+abbrev pub PathBetween : List ℕ → ℕ → ℕ → List ℕ → ℕ → Type 0
+PathBetween s n a rs b = Path (firstEnd s) (secondEnd s) (n - 1) a rs b
 
 -- the path is no longer than the bound
 pub record InReach (s : List ℕ) (n bound a b : ℕ) : Type 0 where
   pub rows : List ℕ
-  pub path : Between s n a rows b
+  pub path : PathBetween s n a rows b
   pub short : Sum (lengthOf s) rows ≤ bound
 
 -- a free branch of the path
 pub record Taken (s before : List ℕ) (n a b r : ℕ) : Type 0 where
   pub rows : List ℕ
-  pub path : Between s n a rows b
+  pub path : PathBetween s n a rows b
   pub on : In r rows
   pub free : Free (at before r)
 

@@ -11,7 +11,7 @@ use Rattle.table.specs.Refuse.{refused, passed, fine, Only}
 use Rattle.table.specs.Signed.{InRange}
 use Rattle.table.specs.Header.{Header, Lettered, versionOf, nodesOf, boundOf}
 use Rattle.table.specs.Row.{rowAt, Stands}
-use Rattle.table.specs.Examine.{RowNumber, Rows, Tested}
+use Rattle.table.specs.Examine.{RowNumber, RowsTested, Tested}
 use Rattle.table.specs.Opens.{openingRefusal, Opens, Examines}
 use Rattle.table.specs.declared.Row.{Row}
 use Rattle.table.specs.declared.Refusal.{Refusal}
@@ -188,7 +188,7 @@ pub refused-stays : (s : List ℕ) (w : Refusal) → Opens s (Refused w)
 refused-stays s w p = header-map (λ o. o) openingRefusal s (λ h e. absurd (nothing-found e)) p
 
 pub opened-goes : (s : List ℕ) (n b : ℕ) (o : Opening) → Opens s (Opened n b)
-    → Rows Opening openingRefusal s n (λ x. x ≡ Opened n b) o → Examines s o
+    → RowsTested Opening openingRefusal s n (λ x. x ≡ Opened n b) o → Examines s o
 opened-goes s n b o p q = let h = opened s n b p in past-header openingRefusal {s = s} (h .0) (rw (h .1, h .2) at q)
 
 -- what a row numbered 0 has, and such a row is numbered 0

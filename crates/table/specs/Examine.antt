@@ -18,9 +18,9 @@ RowNumber n q =
     (λ k. k ≡ 0))))
 
 -- the n − 1 rows in order, the first bad row named
-abbrev pub Rows : (A : Type 0) → (ℕ → ℕ → A) → List ℕ → ℕ → (A → Type 0) → A → Type 0
-Rows A refusal s n = FirstBad A refusal (n - 1) (λ r. RowNumber n (rowAt s r))
+abbrev pub RowsTested : (A : Type 0) → (ℕ → ℕ → A) → List ℕ → ℕ → (A → Type 0) → A → Type 0
+RowsTested A refusal s n = FirstBad A refusal (n - 1) (λ r. RowNumber n (rowAt s r))
 
 -- 1 to 10, and then as the rest says: how every operation over a table begins
 abbrev pub Tested : (A : Type 0) → (ℕ → ℕ → A) → List ℕ → (A → Type 0) → A → Type 0
-Tested A refusal s rest = Header A refusal s (Rows A refusal s (nodesOf s) rest)
+Tested A refusal s rest = Header A refusal s (RowsTested A refusal s (nodesOf s) rest)

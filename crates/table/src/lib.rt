@@ -11,7 +11,7 @@ ghost use Rattle.table.specs.Bytes.{u16At, u32At};
 ghost use Rattle.table.specs.Opens.{openingRefusal, Opens, Examines};
 ghost use Rattle.table.specs.Row.{Stands, PartOf, NextOf, RowOf, rowAt};
 ghost use Rattle.table.specs.work.Standing.{Standing};
-ghost use Rattle.table.specs.Examine.{RowNumber, Rows};
+ghost use Rattle.table.specs.Examine.{RowNumber, RowsTested};
 ghost use Rattle.table.specs.work.Lift.{LiftedOf, LoweredOf};
 ghost use Rattle.table.specs.Reader.{HeldOf, Stepped, FirstOf};
 
@@ -241,7 +241,8 @@ fn row_number(s: &[u8], r: usize, nodes: u16) -> u8
 // Every row in order, after a good header.
 fn rows(s: &[u8], nodes: u16, bound: u32) -> Opening
     requires { ⌜ (1 ≤ nodes) × (12 * nodes ≤ length (now s)) ⌝ }
-    ensures { λ o. ⌜ Rows Opening openingRefusal (now (s .entry)) nodes (λ x. x ≡ Opening.Opened nodes bound) o ⌝ }
+    ensures { λ o. ⌜ RowsTested Opening openingRefusal (now (s .entry)) nodes
+        (λ x. x ≡ Opening.Opened nodes bound) o ⌝ }
 {
     let count = nodes as usize;
     let mut r: usize = 0;

@@ -19,7 +19,7 @@ use Rattle.net.proofs.Labels.{both}
 use Rattle.changes.specs.Change.{changeRefusal, Changes}
 use Rattle.changes.specs.declared.Change.{Change}
 use Rattle.changes.specs.declared.Change.the-variants.{Changed, Refused}
-use Rattle.changes.specs.Claim.{Between, InReach, Taken, Ended, Claims}
+use Rattle.changes.specs.Claim.{PathBetween, InReach, Taken, Ended, Claims}
 use Rattle.worked.proofs.Tests.{
   and,
   cond-yes,
@@ -77,10 +77,10 @@ module _ (way : ℕ → ℕ → List ℕ) (s before : List ℕ) (run a b : ℕ) 
       (h (p .0) (q .1 .1 .1 .0)))))
 
   module _ (ok : T (accepted? s)) (w : T (path? s a rs b)) where
-    path : Between s (nodesOf s) a rs b
+    path : PathBetween s (nodesOf s) a rs b
     path = is-path s a rs b w
 
-    one : {ts : List ℕ} → Between s (nodesOf s) a ts b → ts ≡ rs
+    one : {ts : List ℕ} → PathBetween s (nodesOf s) a ts b → ts ≡ rs
     one q = path-only s ok q path
 
     long : boundOf s < Sum (lengthOf s) rs → ¬ InReach s (nodesOf s) (boundOf s) a b
