@@ -3,7 +3,7 @@
 -- listing: every qualifying pair, lower node first, each once, in order. It is shown once, over any length test; both
 -- modes cite it at the end, the listing with "at most B", listing_exact with "exactly B".
 use Prim.Native.Nat.{ℕ, zero, suc, _+_, _-_, _*_, _≤_, _<_}
-use mathlib.Core.Path.{_≡_, refl, sym, ap, _∙_}
+use mathlib.Core.Path.{_≡_, sym, ap, _∙_}
 use mathlib.Core.List.{List, [], _++_, append-nil}
 use native.Mathlib.Omega.{arith}
 use native.Mathlib.Decide.{decLt}
@@ -26,6 +26,7 @@ use Rattle.pages.proofs.Calls.{paged-written}
 use Rattle.pages.proofs.Demand3 as pages
 use Rattle.ground.specs.PathOf.{PathOf}
 use Rattle.listing.specs.Listing.{listingRefusal, ListingWithin}
+use Rattle.tree.specs.declared.Refusal.{Refusal}
 use Rattle.listing.specs.declared.Listed.{Listed}
 use Rattle.listing.specs.declared.Listed.the-variants.{Rows, Refused}
 use Rattle.listing.specs.Asks.{lastLow, lastHigh, Asks, last, next}
@@ -155,18 +156,14 @@ module _ (Within : ℕ → Type 0) (s marks : List ℕ) (floor : ℤ) where
   -- FROM ITS OWN PREMISE: an accepted table, a mark for each branch, any floor, calls that each lend room for a row.
   module _ (a : Accepts s (Accepted (nodesOf s) (boundOf s))) (m : length marks ≡ nodesOf s - 1) where
     -- No such call is refused.
-    pub answered : {low high : ℕ} {old : List ℕ} (x : Listed × List ℕ) → 16 ≤ length old
-        → ListingWithin Within s marks floor low high old x
-        → (written : ℕ) × (left : ℕ) × (x .0 ≡ Rows written left)
-    answered (Rows written left, bytes) h p = (written, left, refl)
-    answered {old = old} (Refused why, bytes) h p =
-        absurd (settled h (settled m (begins-rest (listingRefusal old) s a p)))
+    pub answered : {low high : ℕ} {old bytes : List ℕ} {why : Refusal} → 16 ≤ length old
+        → ListingWithin Within s marks floor low high old (Refused why, bytes) → ⊥
+    answered {old = old} h p = settled h (settled m (begins-rest (listingRefusal old) s a p))
 
     given : {low high : ℕ} {old : List ℕ} (x : Listed × List ℕ) → 16 ≤ length old
         → ListingWithin Within s marks floor low high old x → Given low high old
     given (Rows written left, bytes) h p = record { written = written; left = left; bytes = bytes; is = p }
-    given {old = old} (Refused why, bytes) h p =
-        absurd (settled h (settled m (begins-rest (listingRefusal old) s a p)))
+    given (Refused why, bytes) h p = absurd (answered h p)
 
     pub demand-3 : JoinsUp Within s marks floor
     demand-3 lent enough call =

@@ -23,7 +23,6 @@ use Rattle.pages.proofs.Pages.{pages-listing, page-full}
 use Rattle.pages.proofs.Calls.{calls-pages}
 use Rattle.tree.specs.declared.Refusal.{Refusal}
 use Rattle.listing.specs.Listing.{ListingOf}
-use Rattle.listing.specs.declared.Listed.{Listed}
 use Rattle.listing.specs.declared.Listed.the-variants.{Rows, Refused}
 use Rattle.listing.proofs.Few.{listing-room, listing-few}
 use Rattle.listing.proofs.Only.{listing-page}
@@ -41,13 +40,7 @@ use Rattle.reporting.proofs.Coming.{rest-as, comes-before, out-before}
 -- a call that is ready is answered by a page
 pub ready-taken : {s marks lent bytes : List ℕ} {floor : ℤ} {low high : ℕ} {why : Refusal}
     → ListingReady s marks lent → ListingOf s marks floor low high lent (Refused why, bytes) → ⊥
-ready-taken {s} {marks} {bytes = bytes} {floor = floor} {why = why} r p =
-    let e = answered _ s marks floor (r .accepted) (r .marked) (Refused why, bytes) (r .room) p .2 in
-    omega (arith, ap taken e)
-  where
-    taken : Listed → ℕ
-    taken (Rows w l) = 1
-    taken (Refused v) = 0
+ready-taken {s} {marks} {floor = floor} r p = answered _ s marks floor (r .accepted) (r .marked) (r .room) p
 
 pub ready-asked : {s marks lent bytes : List ℕ} {floor : ℤ} {low high written left : ℕ} → ListingReady s marks lent
     → ListingOf s marks floor low high lent (Rows written left, bytes)
