@@ -43,10 +43,10 @@
 #include <stdint.h>
 
 /* The library's version; CHANGES.md says how it moves. */
-#define HB_VERSION "1.3.0"
+#define HB_VERSION "1.3.1"
 #define HB_VERSION_MAJOR 1
 #define HB_VERSION_MINOR 3
-#define HB_VERSION_PATCH 0
+#define HB_VERSION_PATCH 1
 
 #ifdef __cplusplus
 extern "C" {

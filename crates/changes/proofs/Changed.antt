@@ -20,13 +20,14 @@ use Rattle.arrays.proofs.Members.{in-left, in-right, in-either}
 use Rattle.net.proofs.OnePath.{unique}
 use Rattle.net.proofs.RingExactly.{once}
 use Rattle.net.proofs.Counts.{count-same, count-unique, count-some}
+use Rattle.net.proofs.Rises.{TwoRises}
 use Rattle.marks.specs.Mark.{free, HeldBy, RunNumber}
+use Rattle.marks.specs.work.Measured.{one-free, Frees}
 use Rattle.changes.specs.Change.{Changes, Done}
 use Rattle.changes.specs.declared.Change.the-variants.{Changed, Refused}
 use Rattle.changes.specs.Claim.{PathBetween, InReach, Taken}
 use Rattle.changes.specs.work.Replace.{HoldsOld}
-use Rattle.changes.specs.work.Climbs.{one-free, Frees, Held}
-use Rattle.changes.proofs.Rises.{Whole}
+use Rattle.changes.specs.work.Climbs.{Held}
 use Rattle.changes.proofs.Held.{FreeIn, frees-count}
 
 -- places that hold a run's number are branches that the run holds
@@ -80,7 +81,7 @@ module _ {s : List ℕ} {n a b : ℕ} (N : Net s n) where
   in-reach p i = rw (same-rows p (i .path)) (i .short)
 
   module _ {par row place : ℕ → ℕ} {R : Rooted (firstEnd s) (secondEnd s) (n - 1) n par row place} (before : List ℕ)
-      {ups downs : List ℕ} (w : Whole R a b ups downs) where
+      {ups downs : List ℕ} (w : TwoRises R a b ups downs) where
     on-path : (r : ℕ) → Taken s before n a b r → FreeIn before (w .rows) r
     on-path r t = record { on = rw (same-rows (t .path) (w .path)) at (t .on); free = t .free }
 

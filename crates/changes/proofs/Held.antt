@@ -3,7 +3,7 @@
 use mathlib.Core.Path.{_≡_, refl, sym, ap, _∙_}
 use mathlib.Core.Logic.{_⊎_, inl, inr, _≢_, ⊎-elim}
 use mathlib.Core.List.{List, [], _∷_, _++_}
-use Prim.Native.Nat.{ℕ, zero, suc, _+_, _≤_, _<_}
+use Prim.Native.Nat.{ℕ, zero, suc, _+_, _<_}
 use native.Mathlib.Decide.{ℕ-discrete}
 use native.Mathlib.Nat.{zero-add}
 use native.Mathlib.Omega.{arith}
@@ -15,7 +15,8 @@ use Rattle.net.specs.Count.{Count}
 use Rattle.arrays.proofs.Members.{in?, not-nil, in-one, in-left, in-right, in-either}
 use Rattle.net.proofs.Counts.{count-same, count-none, count-one, count-add}
 use Rattle.marks.specs.Mark.{Free}
-use Rattle.changes.specs.work.Climbs.{one-free, Frees, Held, Takes}
+use Rattle.marks.specs.work.Measured.{one-free, Frees}
+use Rattle.changes.specs.work.Climbs.{Held, Takes}
 
 abbrev mark : List ℕ → ℕ → ℕ
 mark l r = filled.at l r
@@ -86,21 +87,6 @@ held-both {ups} {downs} {m} {before} {mid} {after} some h k = record {
         k .stays r (λ i f. n (in-right ups i) (sym e ∙ f)) ∙ e
 
 -- How many are free
-pub one-of : (m : ℕ) → Free m → one-free m ≡ 1
-unfolding one-free
-one-of zero e = refl
-one-of (suc m) e = absurd (omega arith)
-
-pub none-of : (m : ℕ) → (Free m → ⊥) → one-free m ≡ 0
-unfolding one-free
-none-of zero n = absurd (n refl)
-none-of (suc m) n = refl
-
-pub one-most : (m : ℕ) → one-free m ≤ 1
-unfolding one-free
-one-most zero = omega arith
-one-most (suc m) = omega arith
-
 pub record FreeIn (before rs : List ℕ) (r : ℕ) : Type 0 where
   pub on : In r rs
   pub free : Free (mark before r)

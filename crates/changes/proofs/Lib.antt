@@ -1,5 +1,4 @@
 -- Laws of claim, commit and abort, by topic. Theorems has what they change; Only that each promise allows one outcome.
-pub mod Rises
 pub mod Held
 pub mod Climbing
 pub mod Replacing

@@ -1,69 +1,18 @@
 // Claim, along the path: both nodes climb to where their climbs meet. First the path is measured, then its free
 // branches are taken.
-ghost use mathlib.Core.Path.{_≡_};
 ghost use Prim.Native.Nat.{_<_};
 ghost use lib.ListN.{length};
 ghost use Rattle.net.specs.work.Net.{Net};
+ghost use Rattle.net.specs.work.Rise.{WalkClimb};
+ghost use Rattle.reach.specs.work.Walked.{WalkOf};
 ghost use Rattle.marks.specs.Mark.{free};
 ghost use Rattle.changes.specs.Claim.{Claiming, Ended};
-ghost use Rattle.changes.specs.work.Climbs.{
-  one-free,
-  MarkClimb,
-  ShortRows,
-  Measured,
-  Takes,
-  ClimbHeld,
-  ClaimReady,
-  WalkOf,
-};
+ghost use Rattle.changes.specs.work.Climbs.{Takes, ClimbHeld, ClaimReady};
 use crate::Change;
 use marks::FREE;
 use marks::SPENT;
+use marks::measure_climb;
 use tree::Refusal;
-
-// A climb's wire length, and how many of its branches are free.
-struct Rising {
-    length: u64,
-    free: u16,
-}
-
-fn one_free(mark: u16) -> u16
-    ensures { λ r. ⌜ r ≡ one-free mark ⌝ }
-{
-    if mark == FREE {
-        return 1;
-    }
-    0
-}
-
-// The climb from x to t, which is above x.
-fn measure(
-    s: &[u8],
-    marks: &[u16],
-    parent: &[u16; 4096],
-    half: &[u16; 4096],
-    place: &[u16; 4096],
-    x: usize,
-    t: usize,
-) -> Rising
-    requires { ⌜ MarkClimb (now marks) (now parent) (now half) (now place) x t
-        × ShortRows (now s) (length (now marks)) ⌝ }
-    ensures { λ r. ⌜ Measured (now (s .entry)) (now (marks .entry)) (now (parent .entry)) (now (half .entry)) x t
-        (r .length) (r .free) ⌝ }
-{
-    let mut v = x;
-    let mut length: u64 = 0;
-    let mut free: u16 = 0;
-    while v != t {
-        let r = arrays::wide(half[v]) / 2;
-        let q = table::row_at(s, r);
-        let l = q.length;
-        length += arrays::long(l);
-        free += one_free(marks[r]);
-        v = arrays::wide(parent[v]);
-    }
-    Rising { length, free }
-}
 
 fn take(marks: &mut [u16], row: usize, run: u16)
     requires { ⌜ row < length (now marks) ⌝ }
@@ -84,7 +33,7 @@ fn hold(
     t: usize,
     run: u16,
 )
-    requires { ⌜ MarkClimb (now marks) (now parent) (now half) (now place) x t × (free < run) ⌝ }
+    requires { ⌜ WalkClimb (length (now marks)) (now parent) (now half) (now place) x t × (free < run) ⌝ }
     ensures { λ _. ⌜ ClimbHeld (now (parent .entry)) (now (half .entry)) x t run (now (marks .entry))
         (now (marks .exit)) ⌝ }
 {
@@ -117,8 +66,8 @@ fn claim_path(
     let x = arrays::wide(a);
     let y = arrays::wide(b);
     let t = tree::meet(parent, place, arrays::wide(nodes), x, y);
-    let ups = measure(s, marks, parent, half, place, x, t);
-    let downs = measure(s, marks, parent, half, place, y, t);
+    let ups = measure_climb(s, marks, parent, half, place, x, t);
+    let downs = measure_climb(s, marks, parent, half, place, y, t);
     if arrays::long(bound) < ups.length + downs.length {
         return Change::Refused(Refusal {
             number: 18,
@@ -139,6 +88,7 @@ fn claim_path(
     Change::Changed(free)
 }
 
+// The walk, in the lent arrays, and the claim over it.
 fn claim_walked(
     s: &[u8],
     marks: &mut [u16],
@@ -147,17 +97,17 @@ fn claim_walked(
     run: u16,
     a: u16,
     b: u16,
+    parent: &mut [u16; 4096],
+    half: &mut [u16; 4096],
+    order: &mut [u16; 4096],
+    place: &mut [u16; 4096],
 ) -> Change
     requires { ⌜ ClaimReady (now s) (now marks) nodes run a b ⌝ }
     ensures { λ r. ⌜ Ended (now (s .entry)) nodes bound (now (marks .entry)) run a b
         (r, now (marks .exit)) ⌝ }
 {
-    let mut parent: [u16; 4096] = [4096; 4096];
-    let mut half: [u16; 4096] = [0; 4096];
-    let mut order: [u16; 4096] = [0; 4096];
-    let mut place: [u16; 4096] = [0; 4096];
-    tree::walk(s, nodes, &mut parent, &mut half, &mut order, &mut place);
-    claim_path(s, marks, &parent, &half, &place, nodes, bound, run, a, b)
+    tree::walk(s, nodes, parent, half, order, place);
+    claim_path(s, marks, parent, half, place, nodes, bound, run, a, b)
 }
 
 // In an accepted net: 13, 14, 15, and then along the path.
@@ -169,6 +119,10 @@ pub(crate) fn claim_pair(
     run: u16,
     a: u16,
     b: u16,
+    parent: &mut [u16; 4096],
+    half: &mut [u16; 4096],
+    order: &mut [u16; 4096],
+    place: &mut [u16; 4096],
 ) -> Change
     requires { ⌜ Net (now s) nodes ⌝ }
     ensures { λ r. ⌜ Claiming (now (s .entry)) nodes bound (now (marks .entry)) run a b
@@ -216,5 +170,17 @@ pub(crate) fn claim_pair(
             ring: 0,
         });
     }
-    claim_walked(s, marks, nodes, bound, run, a, b)
+    claim_walked(
+        s,
+        marks,
+        nodes,
+        bound,
+        run,
+        a,
+        b,
+        parent,
+        half,
+        order,
+        place,
+    )
 }

@@ -21,10 +21,29 @@ pub enum Change {
 pub fn claim(s: &[u8], marks: &mut [u16], run: u16, a: u16, b: u16) -> Change
     ensures { λ r. ⌜ Claims (now (s .entry)) (now (marks .entry)) run a b (r, now (marks .exit)) ⌝ }
 {
-    let o = tree::accept(s);
+    // The walk's arrays, which acceptance uses before there is a walk.
+    let mut parent: [u16; 4096] = [0; 4096];
+    let mut half: [u16; 4096] = [0; 4096];
+    let mut order: [u16; 4096] = [0; 4096];
+    let mut place: [u16; 4096] = [0; 4096];
+    let o = tree::accept_in(s, &mut parent, &mut half, &mut order, &mut place);
     match o {
         Acceptance::Refused(why) => Change::Refused(why),
-        Acceptance::Accepted { nodes, bound } => { claim_pair(s, marks, nodes, bound, run, a, b) }
+        Acceptance::Accepted { nodes, bound } => {
+            claim_pair(
+                s,
+                marks,
+                nodes,
+                bound,
+                run,
+                a,
+                b,
+                &mut parent,
+                &mut half,
+                &mut order,
+                &mut place,
+            )
+        }
     }
 }
 

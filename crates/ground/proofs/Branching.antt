@@ -74,21 +74,21 @@ pub readable : {s : List ℕ} {n : ℕ} {parent half order place : List ℕ} →
 readable t w = record { net = t; row = λ x b z. walk-rooted t w .row-fits x b z }
 
 -- the ground of an accepted net under its marks
-abbrev pub ground : {s marks : List ℕ} {n : ℕ} {parent order place bl bw : List ℕ}
-    → Grounded s marks n parent order place bl bw → Ground n parent order place bl bw
-ground {s} {marks} {n} q =
+abbrev pub ground : {s marks : List ℕ} {n : ℕ} {parent half order place bl bw : List ℕ}
+    → Grounded s marks n parent half order place bl bw → Ground n parent order place bl bw
+ground {s} {marks} {n} {half = half} q =
     record {
       u = firstEnd s;
       v = secondEnd s;
       k = n - 1;
       long = lengthOf s;
       heavy = weightUnder s marks;
-      row = λ x. at (q .half) x / 2;
+      row = λ x. at half x / 2;
       grown = walk-grown (q .net) (q .walked);
       rooted = walk-rooted (q .net) (q .walked);
       length-is = q .branches .length-is;
       short = λ x c z. rw (q .branches .length-is x c z)
-          (q .net .short (at (q .half) x / 2) (walk-rooted (q .net) (q .walked) .row-fits x c z));
+          (q .net .short (at half x / 2) (walk-rooted (q .net) (q .walked) .row-fits x c z));
       weight-is = q .branches .weight-is;
       light = q .branches .light;
     }

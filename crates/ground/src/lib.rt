@@ -2,25 +2,26 @@
 ghost use Rattle.net.specs.work.Net.{Net};
 ghost use Rattle.ground.specs.work.Grounded.{BranchesReadable, Branches, Grounded};
 
-// The walk of an accepted net, and its branches.
+// The walk of an accepted net, and its branches. A sweep that stands on them reads no half-branches any more: half is
+// then the caller's to lend on.
 pub fn grounded(
     s: &[u8],
     marks: &[u16],
     nodes: u16,
     parent: &mut [u16; 4096],
+    half: &mut [u16; 4096],
     order: &mut [u16; 4096],
     place: &mut [u16; 4096],
     bl: &mut [u64; 4096],
     bw: &mut [u64; 4096],
 )
     requires { ⌜ Net (now s) nodes ⌝ }
-    ensures { λ _. ⌜ Grounded (now (s .entry)) (now (marks .entry)) nodes (now (parent .exit)) (now (order .exit))
-        (now (place .exit)) (now (bl .exit)) (now (bw .exit)) ⌝ }
+    ensures { λ _. ⌜ Grounded (now (s .entry)) (now (marks .entry)) nodes (now (parent .exit)) (now (half .exit))
+        (now (order .exit)) (now (place .exit)) (now (bl .exit)) (now (bw .exit)) ⌝ }
 {
-    let mut half: [u16; 4096] = [0; 4096];
-    tree::walk(s, nodes, parent, &mut half, order, place);
+    tree::walk(s, nodes, parent, half, order, place);
     let n = arrays::wide(nodes);
-    branches(s, marks, &half, n, bl, bw);
+    branches(s, marks, half, n, bl, bw);
 }
 
 // For each node but 0 the length and the lifted weight of the branch to its parent,

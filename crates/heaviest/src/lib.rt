@@ -25,33 +25,51 @@ pub enum HeaviestAnswer {
     Refused(Refusal),
 }
 
-// The best pair of an accepted net, its length and weight lifted by 2^40; weight 0 is none.
-fn search(s: &[u8], marks: &[u16], nodes: u16, limit: Limit) -> Best
+// The best pair of an accepted net, its length and weight lifted by 2^40; weight 0 is none. The four arrays lent are
+// for the walk; half then serves for the heads.
+fn search(
+    s: &[u8],
+    marks: &[u16],
+    nodes: u16,
+    limit: Limit,
+    parent: &mut [u16; 4096],
+    half: &mut [u16; 4096],
+    order: &mut [u16; 4096],
+    place: &mut [u16; 4096],
+) -> Best
     requires { ⌜ Net (now s) nodes ⌝ }
     requires { ⌜ limit .most < 4294967296 ⌝ }
     ensures { λ r. ⌜ BestPair (PathOf (now (s .entry)) (now (marks .entry)) nodes) nodes (Fits limit) r ⌝ }
 {
-    let mut parent: [u16; 4096] = [4096; 4096];
-    let mut order: [u16; 4096] = [0; 4096];
-    let mut place: [u16; 4096] = [0; 4096];
     let mut bl: [u64; 4096] = [0; 4096];
     let mut bw: [u64; 4096] = [0; 4096];
     grounded(
         s,
         marks,
         nodes,
-        &mut parent,
-        &mut order,
-        &mut place,
+        parent,
+        half,
+        order,
+        place,
         &mut bl,
         &mut bw,
     );
     let n = arrays::wide(nodes);
-    layout::heaviest_pair(&parent, &order, &place, &bl, &bw, n, limit)
+    layout::heaviest_pair(parent, half, order, place, &mut bl, &mut bw, n, limit)
 }
 
 // 13, then `none` where no pair fits the limit, then the heaviest run, of an accepted net.
-fn choose(s: &[u8], marks: &[u16], nodes: u16, limit: Limit, none: u8) -> HeaviestAnswer
+fn choose(
+    s: &[u8],
+    marks: &[u16],
+    nodes: u16,
+    limit: Limit,
+    none: u8,
+    parent: &mut [u16; 4096],
+    half: &mut [u16; 4096],
+    order: &mut [u16; 4096],
+    place: &mut [u16; 4096],
+) -> HeaviestAnswer
     requires { ⌜ Net (now s) nodes ⌝ }
     requires { ⌜ limit .most < 4294967296 ⌝ }
     ensures { λ r. ⌜ Chooses none (Fits limit) (now (s .entry)) nodes (now (marks .entry)) r ⌝ }
@@ -64,7 +82,7 @@ fn choose(s: &[u8], marks: &[u16], nodes: u16, limit: Limit, none: u8) -> Heavie
             ring: 0,
         });
     }
-    let b = search(s, marks, nodes, limit);
+    let b = search(s, marks, nodes, limit, parent, half, order, place);
     if b.weight == 0 {
         return HeaviestAnswer::Refused(Refusal {
             number: none,
@@ -103,7 +121,12 @@ fn heaviest_in_mode(s: &[u8], marks: &[u16], exact: bool, none: u8) -> HeaviestA
     ensures { λ r. ⌜ HeaviestWithin none (Within exact (boundOf (now (s .entry)))) (now (s .entry)) (now (marks .entry))
         r ⌝ }
 {
-    let o = tree::accept(s);
+    // The walk's arrays, which acceptance uses before there is a walk.
+    let mut parent: [u16; 4096] = [0; 4096];
+    let mut half: [u16; 4096] = [0; 4096];
+    let mut order: [u16; 4096] = [0; 4096];
+    let mut place: [u16; 4096] = [0; 4096];
+    let o = tree::accept_in(s, &mut parent, &mut half, &mut order, &mut place);
     match o {
         Acceptance::Refused(why) => HeaviestAnswer::Refused(why),
         Acceptance::Accepted { nodes, bound } => {
@@ -112,7 +135,17 @@ fn heaviest_in_mode(s: &[u8], marks: &[u16], exact: bool, none: u8) -> HeaviestA
                 most: most,
                 exact: exact,
             };
-            choose(s, marks, nodes, limit, none)
+            choose(
+                s,
+                marks,
+                nodes,
+                limit,
+                none,
+                &mut parent,
+                &mut half,
+                &mut order,
+                &mut place,
+            )
         }
     }
 }

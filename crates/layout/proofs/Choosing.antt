@@ -19,7 +19,8 @@ use Rattle.parts.specs.work.Searched.{Cross, Searched}
 use Rattle.parts.specs.work.Searched as searched
 use Rattle.parts.proofs.Climbs.{Climbs, cross-climbs}
 use Rattle.layout.proofs.Chosen.{Lifted, Meet, Value, Met, Found, Chosen}
-use Rattle.layout.specs.work.Laid.{Spots, Laid, Numbering}
+use Rattle.layout.specs.work.Laid.{Spots, Laid}
+use Rattle.layout.proofs.Numbers.{Numbering}
 use Rattle.layout.proofs.Numbers as numbers
 
 -- two nodes, the lower first

@@ -9,17 +9,60 @@ use Rattle.arrays.specs.At.{at}
 use Rattle.net.specs.work.Rooted.{Above}
 use Rattle.reach.specs.work.Grown.{Grown}
 use Rattle.net.proofs.Rooted.{above-inv}
-use Rattle.net.proofs.Above.{Tree}
+use Rattle.net.proofs.Above.{Tree, fits-up}
 use Rattle.reach.proofs.Grown.{grown-tree}
-use Rattle.spines.specs.work.Parents.{Child}
+use Rattle.spines.specs.work.Parents.{Child, HeadsAll, SizesAll}
 use Rattle.spines.proofs.Below.{child-fits, via}
 use Rattle.spines.proofs.Head.{head-above}
 use Rattle.parts.specs.work.Parts.{Part}
 use Rattle.parts.proofs.Numbered.{Numbered, numbered-part}
 use Rattle.parts.proofs.Climbs.{Nested}
-use Rattle.layout.specs.work.Laid.{Spots, Numbering}
+use Rattle.layout.specs.work.Seats.{Seating}
+use Rattle.layout.specs.work.Laid.{Spots, Layable, LaidOut, Laid}
 use Rattle.layout.proofs.Heads.{off-own, head-root}
 use Rattle.layout.proofs.Spots as spots
+
+-- the nodes' heads, sizes and spots, and the ends, heads, parents and names of all spots
+pub record Numbering (n : ℕ) (parent place spot stops heads parents names : List ℕ) : Type 0 where
+  pub head : List ℕ
+  pub size : List ℕ
+  pub next : List ℕ
+  pub headed : HeadsAll n parent head
+  pub sized : SizesAll n parent size
+  pub seated : Seating n parent place head size n spot next
+  pub ended : Laid 0 n spot (λ v. at spot v + at size v) stops
+  pub top : Laid 1 n spot (λ v. at spot (at head v)) heads
+  pub above : Laid 1 n spot (λ v. at spot (at parent v)) parents
+  pub named : Laid 0 n spot (λ v. v) names
+
+module _ {n : ℕ} {parent order place head size spot next : List ℕ} (g : Grown n parent order place)
+    (h : HeadsAll n parent head) (z : SizesAll n parent size) (s : Seating n parent place head size n spot next) where
+  -- a node's spot is its own, so nothing laid out is overwritten
+  pub layable : Layable n parent head size spot
+  layable =
+      record {
+        spots = spots.spots-of g h z s;
+        spans = λ v b. s .ends v b (g .here v b .0);
+        heads = λ v l b. fits-up (grown-tree g) b (head-above (h .each v b));
+        parents = λ v l b. g .fits v b (omega arith);
+      }
+
+  pub numbering : {d w stops heads parents names far heavy : List ℕ}
+      → LaidOut n parent head size spot d w stops heads parents names far heavy
+      → Numbering n parent place spot stops heads parents names
+  numbering o =
+      record {
+        head = head;
+        size = size;
+        next = next;
+        headed = h;
+        sized = z;
+        seated = s;
+        ended = o .ended;
+        top = o .top;
+        above = o .above;
+        named = o .named;
+      }
 
 module _ {n : ℕ} {parent order place spot stops heads parents names : List ℕ} (g : Grown n parent order place)
     (m : Numbering n parent place spot stops heads parents names) where

@@ -88,11 +88,11 @@ module _ {n : ℕ} {parent order place bl bw : List ℕ} {Within : ℕ → Type 
     scanning-end b g = sofar-paged b (c .sofar g)
 
 -- what a scan of n nodes gives of any ground, it gives of the accepted net's own
-pub scanned : {s marks parent order place bl bw : List ℕ} {n nodes : ℕ} {Within : ℕ → Type 0} {floor : ℤ}
-    {low high given left : ℕ} {old now : List ℕ} → n ≡ nodes → Grounded s marks nodes parent order place bl bw
+pub scanned : {s marks parent half order place bl bw : List ℕ} {n nodes : ℕ} {Within : ℕ → Type 0} {floor : ℤ}
+    {low high given left : ℕ} {old now : List ℕ} → n ≡ nodes → Grounded s marks nodes parent half order place bl bw
     → ((g : Ground n parent order place bl bw)
     → Paged (Qualifies (ValueIn g) Within floor n) low high old given left now)
     → Paged (Qualifies (PathOf s marks nodes) Within floor nodes) low high old given left now
-scanned {s} {marks} {parent} {order} {place} {bl} {bw} {n} e q f =
-    let q₁ : Grounded s marks n parent order place bl bw = rw e q in
+scanned {s} {marks} {parent} {half} {order} {place} {bl} {bw} {n} e q f =
+    let q₁ : Grounded s marks n parent half order place bl bw = rw e q in
     rw e at (f (ground q₁))

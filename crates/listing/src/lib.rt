@@ -53,7 +53,12 @@ fn listing_in_mode(
     ensures { λ r. ⌜ ListingWithin (Within exact (boundOf (now (s .entry)))) (now (s .entry)) (now (marks .entry)) floor
         low high (now (rows .entry)) (r, now (rows .exit)) ⌝ }
 {
-    let o = tree::accept(s);
+    // The walk's arrays, which acceptance uses before there is a walk.
+    let mut parent: [u16; 4096] = [0; 4096];
+    let mut half: [u16; 4096] = [0; 4096];
+    let mut order: [u16; 4096] = [0; 4096];
+    let mut place: [u16; 4096] = [0; 4096];
+    let o = tree::accept_in(s, &mut parent, &mut half, &mut order, &mut place);
     match o {
         Acceptance::Refused(why) => Listed::Refused(why),
         Acceptance::Accepted { nodes, bound } => {
@@ -62,12 +67,25 @@ fn listing_in_mode(
                 most: most,
                 exact: exact,
             };
-            go_on(s, marks, nodes, limit, floor, low, high, rows)
+            go_on(
+                s,
+                marks,
+                nodes,
+                limit,
+                floor,
+                low,
+                high,
+                &mut parent,
+                &mut half,
+                &mut order,
+                &mut place,
+                rows,
+            )
         }
     }
 }
 
-// 13 and 17, then the page, of an accepted net.
+// 13 and 17, then the page, of an accepted net. The arrays are lent for its walk.
 fn go_on(
     s: &[u8],
     marks: &[u16],
@@ -76,6 +94,10 @@ fn go_on(
     floor: i64,
     low: u16,
     high: u16,
+    parent: &mut [u16; 4096],
+    half: &mut [u16; 4096],
+    order: &mut [u16; 4096],
+    place: &mut [u16; 4096],
     rows: &mut [u8],
 ) -> Listed
     requires { ⌜ Net (now s) nodes ⌝ }
@@ -97,7 +119,20 @@ fn go_on(
             ring: 0,
         });
     }
-    let k = scan::page(s, marks, nodes, limit, floor, low, high, rows);
+    let k = scan::page(
+        s,
+        marks,
+        nodes,
+        limit,
+        floor,
+        low,
+        high,
+        parent,
+        half,
+        order,
+        place,
+        rows,
+    );
     let written = k.given;
     let left = k.left;
     Listed::Rows { written, left }

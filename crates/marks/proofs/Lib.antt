@@ -1,2 +1,3 @@
--- Laws of what a branch weighs under its mark.
+-- Laws of what a branch weighs under its mark, and of a climb under the marks.
 pub mod Weights
+pub mod Measuring

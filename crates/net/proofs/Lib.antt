@@ -15,6 +15,8 @@ pub mod Net
 pub mod Above
 pub mod Climbs
 pub mod Route
+pub mod Rises
+pub mod Along
 pub mod Far
 pub mod Short
 pub mod Hung

@@ -29,7 +29,8 @@ Sums par row n f d = (x : ℕ) → x < n → x ≢ 0 → d x ≡ d (par x) + f (
 abbrev pub Totals : (ℕ → ℕ) → (ℕ → ℕ) → ℕ → (ℕ → ℤ) → (ℕ → ℕ) → Type 0
 Totals par row n g e = (x : ℕ) → x < n → x ≢ 0 → Diff (e x) (e (par x)) (g (row x))
 
-nothing : (g : ℕ → ℤ) (a : ℕ) → Diff a a (Total g [])
+-- the signed sum of no rows, lifted by any number
+pub nothing : (g : ℕ → ℤ) (a : ℕ) → Diff a a (Total g [])
 unfolding Total
 nothing g a = signed.up 0 (omega arith)
 

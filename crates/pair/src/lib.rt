@@ -1,13 +1,14 @@
 // The operation pair: the path between two nodes, its length, its weight under the marks, and the spines that it
 // touches.
-ghost use Prim.Native.Nat.{_<_};
+ghost use mathlib.Core.Path.{_≡_};
+ghost use Prim.Native.Nat.{_-_};
+ghost use lib.ListN.{length};
 ghost use Rattle.net.specs.work.Net.{Net};
 ghost use Rattle.net.specs.Net.{TwoNodes};
-ghost use Rattle.paths.specs.work.Ground.{Ground};
-ghost use Rattle.paths.specs.work.Paths.{Begun};
+ghost use Rattle.reach.specs.work.Walked.{WalkOf};
 ghost use Rattle.pair.specs.Pair.{ShowsPath, Measures, PairOf};
 ghost use Rattle.pair.specs.work.Way.{WayOf};
-use ground::grounded;
+use marks::measure_climb;
 use tree::Acceptance;
 use tree::Refusal;
 
@@ -21,15 +22,40 @@ pub enum PairAnswer {
 pub fn pair(s: &[u8], marks: &[u16], a: u16, b: u16) -> PairAnswer
     ensures { λ r. ⌜ PairOf (now (s .entry)) (now (marks .entry)) a b r ⌝ }
 {
-    let o = tree::accept(s);
+    // The walk's arrays, which acceptance uses before there is a walk.
+    let mut parent: [u16; 4096] = [0; 4096];
+    let mut half: [u16; 4096] = [0; 4096];
+    let mut order: [u16; 4096] = [0; 4096];
+    let mut place: [u16; 4096] = [0; 4096];
+    let o = tree::accept_in(s, &mut parent, &mut half, &mut order, &mut place);
     match o {
         Acceptance::Refused(why) => PairAnswer::Refused(why),
-        Acceptance::Accepted { nodes, bound: _ } => measure(s, marks, nodes, a, b),
+        Acceptance::Accepted { nodes, bound: _ } => measure(
+            s,
+            marks,
+            nodes,
+            a,
+            b,
+            &mut parent,
+            &mut half,
+            &mut order,
+            &mut place,
+        ),
     }
 }
 
 // 13 and 15, then the path, of an accepted net.
-fn measure(s: &[u8], marks: &[u16], nodes: u16, a: u16, b: u16) -> PairAnswer
+fn measure(
+    s: &[u8],
+    marks: &[u16],
+    nodes: u16,
+    a: u16,
+    b: u16,
+    parent: &mut [u16; 4096],
+    half: &mut [u16; 4096],
+    order: &mut [u16; 4096],
+    place: &mut [u16; 4096],
+) -> PairAnswer
     requires { ⌜ Net (now s) nodes ⌝ }
     ensures { λ r. ⌜ Measures (now (s .entry)) (now (marks .entry)) nodes a b r ⌝ }
 {
@@ -62,36 +88,33 @@ fn measure(s: &[u8], marks: &[u16], nodes: u16, a: u16, b: u16) -> PairAnswer
             ring: 0,
         });
     }
-    show(s, marks, nodes, a, b)
+    show(s, marks, nodes, a, b, parent, half, order, place)
 }
 
 // The path between two different nodes.
-fn show(s: &[u8], marks: &[u16], nodes: u16, a: u16, b: u16) -> PairAnswer
-    requires { ⌜ Net (now s) nodes × TwoNodes nodes a b ⌝ }
+fn show(
+    s: &[u8],
+    marks: &[u16],
+    nodes: u16,
+    a: u16,
+    b: u16,
+    parent: &mut [u16; 4096],
+    half: &mut [u16; 4096],
+    order: &mut [u16; 4096],
+    place: &mut [u16; 4096],
+) -> PairAnswer
+    requires { ⌜ Net (now s) nodes × (length (now marks) ≡ nodes - 1) × TwoNodes nodes a b ⌝ }
     ensures { λ r. ⌜ ShowsPath (now (s .entry)) (now (marks .entry)) nodes a b r ⌝ }
 {
-    let mut parent: [u16; 4096] = [4096; 4096];
-    let mut order: [u16; 4096] = [0; 4096];
-    let mut place: [u16; 4096] = [0; 4096];
-    let mut bl: [u64; 4096] = [0; 4096];
-    let mut bw: [u64; 4096] = [0; 4096];
     let mut head: [u16; 4096] = [0; 4096];
     let n = arrays::wide(nodes);
     let x = arrays::wide(a);
     let y = arrays::wide(b);
-    grounded(
-        s,
-        marks,
-        nodes,
-        &mut parent,
-        &mut order,
-        &mut place,
-        &mut bl,
-        &mut bw,
-    );
-    let way = way_between(&parent, &order, &place, &bl, &bw, n, x, y);
-    spines::heads_of(&parent, &order, &place, n, &mut head);
-    let hops = spines::hops(&parent, &place, &head, n, x, y);
+    tree::walk(s, nodes, parent, half, order, place);
+    let way = way_between(s, marks, parent, half, place, n, x, y);
+    // No climb reads rows any more: the main children stand where the half-branches were.
+    spines::heads_of(parent, order, n, half, &mut head);
+    let hops = spines::hops(parent, place, &head, n, x, y);
     let length = way.length;
     let weight = table::lowered(way.weight);
     PairAnswer::Found {
@@ -107,38 +130,27 @@ struct Way {
     weight: u64,
 }
 
-// The path from x to y, by those from x to every node.
+// The path from x to y, by the climbs of both to where they meet.
 fn way_between(
+    s: &[u8],
+    marks: &[u16],
     parent: &[u16; 4096],
-    order: &[u16; 4096],
+    half: &[u16; 4096],
     place: &[u16; 4096],
-    bl: &[u64; 4096],
-    bw: &[u64; 4096],
     n: usize,
     x: usize,
     y: usize,
 ) -> Way
-    requires { ⌜ Begun n x (now parent) (now order) (now place) (now bl) (now bw) × (y < n) ⌝ }
-    ensures { λ r. ⌜ ((g : Ground n (now (parent .entry)) (now (order .entry)) (now (place .entry)) (now (bl .entry))
-        (now (bw .entry)))
-        → WayOf g x y (r .length) (r .weight)) ⌝ }
+    requires { ⌜ Net (now s) n
+        × (length (now marks) ≡ n - 1)
+        × TwoNodes n x y
+        × WalkOf (now s) n (now parent) (now half) (now place) ⌝ }
+    ensures { λ r. ⌜ WayOf (now (s .entry)) (now (marks .entry)) n x y (r .length) (r .weight) ⌝ }
 {
-    let mut above: [u16; 4096] = [0; 4096];
-    let mut len: [u64; 4096] = [0; 4096];
-    let mut wt: [u64; 4096] = [0; 4096];
-    paths::paths_from(
-        parent,
-        order,
-        place,
-        bl,
-        bw,
-        n,
-        x,
-        &mut above,
-        &mut len,
-        &mut wt,
-    );
-    let length = len[y];
-    let weight = wt[y];
+    let t = tree::meet(parent, place, n, x, y);
+    let ups = measure_climb(s, marks, parent, half, place, x, t);
+    let downs = measure_climb(s, marks, parent, half, place, y, t);
+    let length = ups.length + downs.length;
+    let weight = ups.weight + downs.weight - table::SUM_LIFT;
     Way { length, weight }
 }

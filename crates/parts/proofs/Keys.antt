@@ -5,9 +5,10 @@ use mathlib.Core.Bool.{true, false, true≢false, false≢true}
 use mathlib.Core.List.{List}
 use native.Mathlib.Omega.{arith}
 use native.Mathlib.Decide.{decLt}
-use lib.ListN.{length, set, replicate, length-replicate, getD-replicate}
+use lib.ListN.{length, set}
 use lib.Seq.{getD-set-same}
 use Rattle.arrays.specs.At.{at}
+use Rattle.arrays.specs.work.Filled.{Filled}
 use Rattle.spans.specs.work.Spans.{InSpan, SpanCopied}
 use Rattle.spans.specs.work.Pairs.{Small}
 use Rattle.spans.proofs.Copying.{kept-none, kept-more, each-more}
@@ -104,20 +105,21 @@ lone-hang d w t p s e x y ku wu y′ ku′ wu′ o z b l c q i j = (
   record { of-x = kept-none; of-y = c .kept; of-ku = i .kept; of-wu = j .kept },
 )
 
--- fresh arrays
-pub sizes-fresh : Sizes (replicate 4096 0) (replicate 4096 0) (replicate 4096 0) (replicate 4096 0)
-sizes-fresh =
+-- work arrays that were filled with 0
+pub sizes-filled : {x y ku wu : List ℕ} → Filled 4096 0 x → Filled 4096 0 y → Filled 4096 0 ku → Filled 4096 0 wu
+    → Sizes x y ku wu
+sizes-filled {x} {y} {ku} {wu} a b c d =
     record {
-      of-x = length-replicate {A = ℕ} 4096 0;
-      of-y = length-replicate {A = ℕ} 4096 0;
-      of-ku = length-replicate {A = ℕ} 4096 0;
-      of-wu = length-replicate {A = ℕ} 4096 0;
-      small-ku = zeros;
-      small-wu = zeros;
+      of-x = a .long;
+      of-y = b .long;
+      of-ku = c .long;
+      of-wu = d .long;
+      small-ku = small c;
+      small-wu = small d;
     }
   where
-    zeros : Small (replicate 4096 0)
-    zeros = record { small = λ x h. rw (getD-replicate {A = ℕ} 4096 x 0 0 h) (omega arith) }
+    small : {l : List ℕ} → Filled 4096 0 l → Small l
+    small f = record { small = λ z n. rw (f .each z n) (omega arith) }
 
 pub owned-yes : (head : List ℕ) (h i : ℕ) → at head i ≡ h → Owned head h i true
 owned-yes head h i q = record { yes-own = λ _. q; no-own = λ n. absurd (true≢false n) }

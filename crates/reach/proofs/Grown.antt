@@ -12,7 +12,7 @@ use Rattle.net.specs.work.Forest.{Forest}
 use Rattle.net.specs.Count.{Count}
 use Rattle.net.specs.work.Rooted.{Rooted}
 use Rattle.reach.specs.work.Walked.{Reached, Walked}
-use Rattle.reach.specs.work.Grown.{Grown}
+use Rattle.reach.specs.work.Grown.{Grown, Ordered}
 use Rattle.reach.specs.work.Queue.{Reaches}
 use Rattle.net.specs.work.Rows.{RowsFit}
 use Rattle.net.proofs.Rows.{ends-flip}
@@ -33,6 +33,9 @@ pub grown-tree : {n : ℕ} {parent order place : List ℕ} → Grown n parent or
 grown-tree g = record { fits = g .fits; earlier = g .earlier; within = λ x b. g .here x b .0 }
 
 module _ {n : ℕ} {parent order place : List ℕ} (g : Grown n parent order place) where
+  pub ordered : Ordered n parent order
+  ordered = record { place = place; holds = g }
+
   pub root-place : at place 0 ≡ 0
   root-place = ap (at place) (sym (g .root)) ∙ g .back 0 (g .some .0)
 

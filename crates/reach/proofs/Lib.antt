@@ -2,6 +2,7 @@
 pub mod Chained
 pub mod Queue
 pub mod Walked
+pub mod Placing
 pub mod WalkOnly
 pub mod Grown
 pub mod Sweep

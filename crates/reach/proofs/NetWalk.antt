@@ -1,6 +1,6 @@
 -- The walk of an accepted net, for the crates above: it reaches all nodes, so it makes an order (Grown) and a rooted
 -- tree (Rooted); and it allows one outcome.
-use Prim.Native.Nat.{ℕ, _-_, _/_, _<_}
+use Prim.Native.Nat.{ℕ, _-_, _<_}
 use mathlib.Core.Path.{_≡_}
 use mathlib.Core.Logic.{inl, _↔_, ⊎-elim}
 use mathlib.Core.List.{List, _∷_}
@@ -11,6 +11,7 @@ use Rattle.net.specs.work.Simple.{Simple}
 use Rattle.net.specs.Net.{firstEnd, secondEnd}
 use Rattle.net.specs.work.Net.{Net}
 use Rattle.net.specs.work.Rooted.{Above, self, Rooted}
+use Rattle.net.specs.work.Rise.{rowOf, WalkClimb}
 use Rattle.reach.specs.work.Walked.{Walked}
 use Rattle.reach.specs.work.Grown.{Grown}
 use Rattle.net.specs.work.Rows.{RowsFit, Fitting}
@@ -20,6 +21,7 @@ use Rattle.net.proofs.Erase.{simple}
 use Rattle.net.proofs.Above.{Tree, above-anti, fits-up}
 use Rattle.net.proofs.Climbs.{root-above, none-passed}
 use Rattle.net.proofs.Route.{route}
+use Rattle.net.proofs.Rises.{above-rise}
 use Rattle.reach.proofs.Grown.{reached-all, walked-grown, walked-rooted, grown-tree}
 use Rattle.reach.proofs.WalkOnly.{walked-only}
 
@@ -48,10 +50,30 @@ module _ {s : List ℕ} {n : ℕ} (t : Net s n) where
     walk-grown =
         walked-grown (firstEnd s) (secondEnd s) (n - 1) n parent half order place (t .few) (t .some) fit (t .joined) w
 
-    pub walk-rooted : Rooted (firstEnd s) (secondEnd s) (n - 1) n (at parent) (λ x. at half x / 2) (at place)
+    pub walk-rooted : Rooted (firstEnd s) (secondEnd s) (n - 1) n (at parent) (rowOf half) (at place)
     walk-rooted =
         walked-rooted (firstEnd s) (secondEnd s) (n - 1) n parent half order place (t .few) (t .some) fit (t .joined) w
         (t .forest)
+
+    -- the climb from x to a node above it
+    pub walk-climb : {k x y : ℕ} → k ≡ n - 1 → x < n → Above (at parent) y x
+        → (c : WalkClimb k parent half place x y) × Net s (c .nodes)
+    walk-climb {x = x} e b h =
+        let q = above-rise h in (
+          record {
+            nodes = n;
+            few = t .few;
+            many = e;
+            first = firstEnd s;
+            second = secondEnd s;
+            rooted = walk-rooted;
+            fits = b;
+            low = walk-grown .here x b .0;
+            rows = q .0;
+            rise = q .1;
+          },
+          t,
+        )
 
     pub walk-only : {parent′ half′ order′ place′ : List ℕ}
         → Walked (firstEnd s) (secondEnd s) (n - 1) n parent′ half′ order′ place′

@@ -16,6 +16,7 @@ use Rattle.net.proofs.Joined.{joined-refl, joined-step, joined-trans, joined-sy
 use Rattle.net.proofs.Bridge.{detour}
 use Rattle.net.proofs.Labels.{joined?}
 use Rattle.reach.proofs.Chained.{half-ends, swap-half}
+use Rattle.reach.proofs.Placing.{walked-once}
 
 module _ (us vs : ℕ → ℕ) (rows : ℕ) where
   module _ {m : ℕ} {parent half order place : List ℕ} (w : Walked us vs rows m parent half order place) where
@@ -55,7 +56,7 @@ module _ (us vs : ℕ → ℕ) (rows : ℕ) where
 
     -- no earlier place holds what place i holds
     earlier : (i j : ℕ) → i < m → j < i → at order j ≢ at order i
-    earlier i j b h q = omega (arith, w .back i b, w .back j (omega arith), ap (at place) q)
+    earlier i j b h = walked-once w .apart j i h b
 
   module _ (F : Forest us vs rows) {m m′ : ℕ} {parent half order place parent′ half′ order′ place′ : List ℕ}
       (w : Walked us vs rows m parent half order place) (w′ : Walked us vs rows m′ parent′ half′ order′ place′) where

@@ -2,5 +2,6 @@
 pub mod Chains
 pub mod Grown
 pub mod Half
+pub mod Placing
 pub mod Queue
 pub mod Walked

@@ -10,6 +10,7 @@ ghost use Rattle.reach.specs.work.Walked.{WalkedFrom};
 ghost use Rattle.net.specs.work.Rows.{Readable};
 ghost use Rattle.reach.specs.work.Chains.{Chained};
 ghost use Rattle.reach.specs.work.Queue.{Outer, Visits, Reaches};
+ghost use Rattle.reach.specs.work.Placing.{Once, Placed, Places};
 use net::first_end;
 use net::second_end;
 
@@ -63,14 +64,13 @@ fn visit(
     parent: &mut [u16; 4096],
     half: &mut [u16; 4096],
     order: &mut [u16; 4096],
-    place: &mut [u16; 4096],
     head: usize,
     tail: usize,
 ) -> usize
     requires { ⌜ Visits (at (now order) 0) (now s) rows (now first) (now next) head tail (now parent) (now half)
-        (now order) (now place) ⌝ }
-    ensures { λ r. ⌜ Outer (at (now (order .entry)) 0) (firstEnd (now (s .entry))) (secondEnd (now (s .entry))) rows
-        (head + 1) r (now (parent .exit)) (now (half .exit)) (now (order .exit)) (now (place .exit)) ⌝ }
+        (now order) ⌝ }
+    ensures { λ r. ⌜ Placed (Outer (at (now (order .entry)) 0) (firstEnd (now (s .entry)))
+        (secondEnd (now (s .entry))) rows (head + 1) r (now (parent .exit)) (now (half .exit)) (now (order .exit))) ⌝ }
 {
     let p = arrays::wide(order[head]);
     let mut m = tail;
@@ -82,7 +82,6 @@ fn visit(
             parent[c] = p as u16;
             half[c] = h as u16;
             order[m] = c as u16;
-            place[c] = m as u16;
             m += 1;
         }
         x = arrays::wide(next[h]);
@@ -101,30 +100,42 @@ fn reach(
     parent: &mut [u16; 4096],
     half: &mut [u16; 4096],
     order: &mut [u16; 4096],
-    place: &mut [u16; 4096],
 ) -> usize
     requires { ⌜ (start < 4096)
         × Readable (now s) rows
         × Chained (firstEnd (now s)) (secondEnd (now s)) rows (2 * rows) (now first) (now next) ⌝ }
-    ensures { λ r. ⌜ WalkedFrom start (firstEnd (now (s .entry))) (secondEnd (now (s .entry))) rows r
-        (now (parent .exit)) (now (half .exit)) (now (order .exit)) (now (place .exit)) ⌝ }
+    ensures { λ r. ⌜ Placed (WalkedFrom start (firstEnd (now (s .entry))) (secondEnd (now (s .entry))) rows r
+        (now (parent .exit)) (now (half .exit)) (now (order .exit))) ⌝ }
 {
     arrays::fill(parent, 4096);
     arrays::fill(half, 0);
     arrays::fill(order, 0);
-    arrays::fill(place, 0);
     parent[start] = start as u16;
     order[0] = start as u16;
     let mut head: usize = 0;
     let mut tail: usize = 1;
     while head < tail {
-        tail = visit(s, rows, first, next, parent, half, order, place, head, tail);
+        tail = visit(s, rows, first, next, parent, half, order, head, tail);
         head += 1;
     }
     tail
 }
 
-// The chains, and the walk over them.
+// For each of the n nodes in the order its place there, and 0 for the others.
+fn places(order: &[u16; 4096], n: usize, place: &mut [u16; 4096])
+    requires { ⌜ Once n (now order) ⌝ }
+    ensures { λ _. ⌜ Places n (now (order .entry)) (now (place .exit)) ⌝ }
+{
+    arrays::fill(place, 0);
+    let mut i: usize = 0;
+    while i < n {
+        let x = arrays::wide(order[i]);
+        place[x] = i as u16;
+        i += 1;
+    }
+}
+
+// The chains, the walk over them, and the places.
 pub fn walk_from(
     s: &[u8],
     rows: usize,
@@ -138,20 +149,26 @@ pub fn walk_from(
     ensures { λ r. ⌜ WalkedFrom start (firstEnd (now (s .entry))) (secondEnd (now (s .entry))) rows r
         (now (parent .exit)) (now (half .exit)) (now (order .exit)) (now (place .exit)) ⌝ }
 {
-    let mut first: [u16; 4096] = [0; 4096];
     let mut next: [u16; 8192] = [0; 8192];
-    chains(s, rows, &mut first, &mut next);
-    reach(s, rows, start, &first, &next, parent, half, order, place)
+    // Until the walk is over the array of places has where each node's chain begins.
+    chains(s, rows, place, &mut next);
+    let n = reach(s, rows, start, place, &next, parent, half, order);
+    places(order, n, place);
+    n
 }
 
-// How many nodes are joined to node 0.
-pub fn reached(s: &[u8], rows: usize) -> usize
+// Between crates: how many nodes are joined to node 0. The arrays are lent for the walk, and nothing is promised of
+// them.
+pub fn reached(
+    s: &[u8],
+    rows: usize,
+    parent: &mut [u16; 4096],
+    half: &mut [u16; 4096],
+    order: &mut [u16; 4096],
+    place: &mut [u16; 4096],
+) -> usize
     requires { ⌜ Readable (now s) rows ⌝ }
     ensures { λ r. ⌜ Reaches (firstEnd (now (s .entry))) (secondEnd (now (s .entry))) rows r ⌝ }
 {
-    let mut parent: [u16; 4096] = [4096; 4096];
-    let mut half: [u16; 4096] = [0; 4096];
-    let mut order: [u16; 4096] = [0; 4096];
-    let mut place: [u16; 4096] = [0; 4096];
-    walk_from(s, rows, 0, &mut parent, &mut half, &mut order, &mut place)
+    walk_from(s, rows, 0, parent, half, order, place)
 }

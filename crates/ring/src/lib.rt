@@ -51,8 +51,9 @@ fn link(up: &mut [u16; 4096], rank: &mut [u16; 4096], p: usize, q: usize)
     }
 }
 
-// The first row whose ends the rows before it join, or the number of rows.
-fn first_ring(s: &[u8], rows: usize, up: &mut [u16; 4096], rank: &mut [u16; 4096]) -> usize
+// Between crates: the first row whose ends the rows before it join, or the number of rows. The arrays are lent for the
+// climbs and the ranks, and nothing is promised of them.
+pub fn first_ring(s: &[u8], rows: usize, up: &mut [u16; 4096], rank: &mut [u16; 4096]) -> usize
     requires { ⌜ Readable (now s) rows ⌝ }
     ensures { λ r. ⌜ FirstRing (firstEnd (now (s .entry))) (secondEnd (now (s .entry))) rows r ⌝ }
 {
@@ -69,14 +70,4 @@ fn first_ring(s: &[u8], rows: usize, up: &mut [u16; 4096], rank: &mut [u16; 4096
         r += 1;
     }
     r
-}
-
-// The same, with arrays of its own.
-pub fn first_closing(s: &[u8], rows: usize) -> usize
-    requires { ⌜ Readable (now s) rows ⌝ }
-    ensures { λ r. ⌜ FirstRing (firstEnd (now (s .entry))) (secondEnd (now (s .entry))) rows r ⌝ }
-{
-    let mut up: [u16; 4096] = [0; 4096];
-    let mut rank: [u16; 4096] = [0; 4096];
-    first_ring(s, rows, &mut up, &mut rank)
 }

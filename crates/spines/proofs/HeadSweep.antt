@@ -13,15 +13,13 @@ use Rattle.reach.proofs.Grown.{not-root}
 use Rattle.reach.proofs.Sweep.{Swept, swept-root, swept-parent, swept-next, swept-all}
 use Rattle.spines.specs.Spine.{Head, top, down}
 use Rattle.spines.specs.work.Parents.{Child, HeadsAll}
-use Rattle.spines.specs.work.Sweeps.{LeavesAll, BestChildren, Follows}
-use Rattle.spines.proofs.MainSweep.{best-main, main-best}
+use Rattle.spines.specs.work.Sweeps.{MainsAll, Follows}
 
 -- the nodes at the places below i have their heads
 abbrev pub Heads : ℕ → List ℕ → List ℕ → ℕ → List ℕ → Type 0
 Heads n parent order i head = Swept (λ x h. Head (Child n (at parent)) n h x) i order head
 
-module _ {n : ℕ} {parent order place lv main : List ℕ} (g : Grown n parent order place) (L : LeavesAll n parent lv)
-    (B : BestChildren n parent lv n main) where
+module _ {n : ℕ} {parent order place main : List ℕ} (g : Grown n parent order place) (M : MainsAll n parent main) where
   pub heads-one : (head : List ℕ) → Filled 4096 0 head → Heads n parent order 1 head
   heads-one head f =
       swept-root g (f .long) (rw (f .each 0 (omega arith)) (top (g .some .0) (λ p k. k .child .low refl)))
@@ -42,8 +40,8 @@ module _ {n : ℕ} {parent order place lv main : List ℕ} (g : Grown n parent o
       new : Dec (at main p ≡ v) → Head (Child n (at parent)) n r v
       new (yes e) =
           rw (f .same e)
-          (down (rw e at (best-main L B p bp (λ q. omega (arith, g .some .1, bv)))) (swept-parent g s v p z b ev ep))
-      new (no m) = rw (f .own m) (top bv (λ q k. m (main-best L B p v bp (g .some .1) (rw (ep ∙ k .child .of) k))))
+          (down (rw e at (M .each p bp .is (λ q. omega (arith, g .some .1, bv)))) (swept-parent g s v p z b ev ep))
+      new (no m) = rw (f .own m) (top bv (λ q k. m (M .each p bp .only v (rw (ep ∙ k .child .of) k))))
 
   pub heads-all : (i : ℕ) (head : List ℕ) → n ≤ i → Heads n parent order i head → HeadsAll n parent head
   heads-all i head h s = record { long = s .long; each = swept-all g s h }

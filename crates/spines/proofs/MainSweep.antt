@@ -6,7 +6,7 @@ use mathlib.Core.Logic.{_≢_}
 use mathlib.Core.List.{List}
 use native.Mathlib.Omega.{arith}
 use native.Mathlib.Decide.{ℕ-discrete, decLe}
-use lib.ListN.{set, length-set}
+use lib.ListN.{length, set, length-set}
 use lib.Seq.{getD-set-same, getD-set-other}
 use Rattle.arrays.specs.At.{at}
 use Rattle.arrays.specs.work.Filled.{Filled}
@@ -14,7 +14,18 @@ use Rattle.reach.specs.work.Grown.{Grown}
 use Rattle.net.proofs.Counts.{count-unique}
 use Rattle.spines.specs.Spine.{Main}
 use Rattle.spines.specs.work.Parents.{Child}
-use Rattle.spines.specs.work.Sweeps.{LeavesAll, BestChild, BestChildren, MainTaken}
+use Rattle.spines.specs.work.Sweeps.{LeavesAll, MainsAll, MainTaken}
+
+-- q is the best of p's children below c, or 4096 where there is none
+pub record BestChild (n : ℕ) (par leaves : ℕ → ℕ) (c p q : ℕ) : Type 0 where
+  pub none : q ≡ 4096 → (d : ℕ) → d < c → ¬ Child n par p d
+  pub below : q ≢ 4096 → q < c
+  pub child : q ≢ 4096 → Child n par p q
+  pub most : q ≢ 4096 → (d : ℕ) → d < c → Child n par p d → (leaves d ≤ leaves q) × (leaves d ≡ leaves q → q ≤ d)
+
+pub record BestChildren (n : ℕ) (parent leaves : List ℕ) (c : ℕ) (main : List ℕ) : Type 0 where
+  pub long : length main ≡ 4096
+  pub each : (p : ℕ) → p < n → BestChild n (at parent) (at leaves) c p (at main p)
 
 pub bests-none : (n : ℕ) (parent lv main : List ℕ) → n ≤ 4096 → Filled 4096 4096 main → BestChildren n parent lv 1 main
 bests-none n parent lv main b f = record {
@@ -98,43 +109,39 @@ bests-more n parent lv main c p r small bc z fits ep s t =
       most = λ e d h k. b .most e d (other q m d h k) k;
     })
 
-pub bests-all : (n : ℕ) (parent lv : List ℕ) (c : ℕ) (main : List ℕ) → n ≤ c → BestChildren n parent lv c main
-    → BestChildren n parent lv n main
-bests-all n parent lv c main h s = record {
-  long = s .long;
-  each = λ p l. let b = s .each p l in record {
-    none = λ e d k. b .none e d (omega arith);
-    below = λ e. b .child e .fits;
-    child = b .child;
-    most = λ e d k. b .most e d (omega arith);
-  };
-}
-
--- the array's child is the main child exactly
-module _ {n : ℕ} {parent lv main : List ℕ} (L : LeavesAll n parent lv) (B : BestChildren n parent lv n main) where
-  pub best-main : (p : ℕ) → p < n → at main p ≢ 4096 → Main (Child n (at parent)) n p (at main p)
+-- when all children were met, the array's child is the main child exactly
+module _ {n : ℕ} {parent lv main : List ℕ} {c : ℕ} (L : LeavesAll n parent lv) (B : BestChildren n parent lv c main)
+    (all : n ≤ c) where
+  best-main : (p : ℕ) → p < n → at main p ≢ 4096 → Main (Child n (at parent)) n p (at main p)
   best-main p b m = record {
     child = B .each p b .child m;
     most = λ d x y k lx ly.
         let q = at main p in
         let e : x ≡ at lv (at main p) = count-unique lx (L .each (at main p) (B .each p b .child m .fits)) in
         let f : y ≡ at lv d = count-unique ly (L .each d (k .fits)) in
-        let o = B .each p b .most m d (k .fits) k in
+        let o = B .each p b .most m d (omega (arith, k .fits)) k in
         (omega (arith, o .0), λ w. o .1 (omega arith));
   }
 
-  pub main-best : (p c : ℕ) → p < n → n ≤ 4096 → Main (Child n (at parent)) n p c → at main p ≡ c
-  main-best p c b small k = pick (ℕ-discrete (at main p) 4096)
+  main-best : (p q : ℕ) → p < n → Main (Child n (at parent)) n p q → at main p ≡ q
+  main-best p q b k = pick (ℕ-discrete (at main p) 4096)
     where
-      pick : Dec (at main p ≡ 4096) → at main p ≡ c
-      pick (yes e) = absurd (B .each p b .none e c (k .child .fits) (k .child))
+      near : q < c
+      near = omega (arith, k .child .fits)
+
+      pick : Dec (at main p ≡ 4096) → at main p ≡ q
+      pick (yes e) = absurd (B .each p b .none e q near (k .child))
       pick (no m) =
-          let o = B .each p b .most m c (k .child .fits) (k .child) in
+          let o = B .each p b .most m q near (k .child) in
           let i = B .each p b .child m in
-          let q = k .most (at main p) (at lv c) (at lv (at main p)) i (L .each c (k .child .fits))
+          let r = k .most (at main p) (at lv q) (at lv (at main p)) i (L .each q (k .child .fits))
           (L .each (at main p) (i .fits)) in
-          let e : at lv c ≡ at lv (at main p) = omega (arith, o .0, q .0) in
-          omega (arith, o .1 e, q .1 (sym e))
+          let e : at lv q ≡ at lv (at main p) = omega (arith, o .0, r .0) in
+          omega (arith, o .1 e, r .1 (sym e))
+
+  pub mains-all : MainsAll n parent main
+  mains-all =
+      record { long = B .long; each = λ p b. record { is = best-main p b; only = λ q k. main-best p q b k } }
 
 pub best-small : {n : ℕ} {parent lv main : List ℕ} {c : ℕ} (p : ℕ) → n ≤ 4096 → c ≤ n → p < n
     → BestChildren n parent lv c main → at main p ≤ 4096

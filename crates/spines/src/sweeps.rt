@@ -1,8 +1,9 @@
-// Sweeps over the walk's arrays: the leaves below each node, its main child, its head.
+// Sweeps over the walk's order: the leaves below each node, its main child, its head. The counts may stand in the array
+// that then holds the heads: heads are found by the main children alone.
 ghost use Prim.Native.Nat.{_≤_, _<_};
-ghost use Rattle.reach.specs.work.Grown.{Grown};
+ghost use Rattle.reach.specs.work.Grown.{Ordered};
 ghost use Rattle.spines.specs.work.Parents.{HeadsAll};
-ghost use Rattle.spines.specs.work.Sweeps.{LeavesAll, Least, BestChildren, MainTaken, Follows};
+ghost use Rattle.spines.specs.work.Sweeps.{LeavesAll, Least, MainsAll, MainTaken, Follows};
 
 // A node with no leaves strictly below it is a leaf and counts itself.
 fn least(x: u16) -> u16
@@ -18,11 +19,10 @@ fn least(x: u16) -> u16
 pub(crate) fn leaves_of(
     parent: &[u16; 4096],
     order: &[u16; 4096],
-    place: &[u16; 4096],
     n: usize,
     leaves: &mut [u16; 4096],
 )
-    requires { ⌜ Grown n (now parent) (now order) (now place) ⌝ }
+    requires { ⌜ Ordered n (now parent) (now order) ⌝ }
     ensures { λ _. ⌜ LeavesAll n (now (parent .entry)) (now (leaves .exit)) ⌝ }
 {
     arrays::fill(leaves, 0);
@@ -58,13 +58,12 @@ fn better(leaves: &[u16; 4096], q: usize, c: usize) -> usize
 pub(crate) fn mains_of(
     parent: &[u16; 4096],
     order: &[u16; 4096],
-    place: &[u16; 4096],
     leaves: &[u16; 4096],
     n: usize,
     main: &mut [u16; 4096],
 )
-    requires { ⌜ Grown n (now parent) (now order) (now place) ⌝ }
-    ensures { λ _. ⌜ BestChildren n (now (parent .entry)) (now (leaves .entry)) n (now (main .exit)) ⌝ }
+    requires { ⌜ Ordered n (now parent) (now order) × LeavesAll n (now parent) (now leaves) ⌝ }
+    ensures { λ _. ⌜ MainsAll n (now (parent .entry)) (now (main .exit)) ⌝ }
 {
     arrays::fill(main, 4096);
     let mut c = 1;
@@ -91,15 +90,11 @@ fn follow(v: usize, q: u16, h: u16) -> u16
 pub(crate) fn follow_mains(
     parent: &[u16; 4096],
     order: &[u16; 4096],
-    place: &[u16; 4096],
-    leaves: &[u16; 4096],
     main: &[u16; 4096],
     n: usize,
     head: &mut [u16; 4096],
 )
-    requires { ⌜ Grown n (now parent) (now order) (now place)
-        × LeavesAll n (now parent) (now leaves)
-        × BestChildren n (now parent) (now leaves) n (now main) ⌝ }
+    requires { ⌜ Ordered n (now parent) (now order) × MainsAll n (now parent) (now main) ⌝ }
     ensures { λ _. ⌜ HeadsAll n (now (parent .entry)) (now (head .exit)) ⌝ }
 {
     arrays::fill(head, 0);

@@ -1,18 +1,24 @@
 -- The climb that finds where two climbs meet: whatever is above both nodes is above where both climbs stand. The later
 -- of the two is above the other's climb nowhere, so nothing common is lost when it steps up.
-use Prim.Native.Nat.{ℕ, _≤_, _<_}
+use Prim.Native.Nat.{ℕ, _-_, _≤_, _<_}
 use mathlib.Core.Path.{_≡_, refl, ap}
 use mathlib.Core.Logic.{_⊎_, inl, inr, _≢_}
 use mathlib.Core.List.{List}
 use native.Mathlib.Omega.{arith}
 use native.Mathlib.Decide.{decLt}
 use Rattle.arrays.specs.At.{at}
+use Rattle.net.specs.Net.{firstEnd, secondEnd}
+use Rattle.net.specs.work.Net.{Net}
 use Rattle.net.specs.work.Rooted.{Above, self, up}
+use Rattle.net.specs.work.Rise.{Rise, rowOf}
 use Rattle.reach.specs.work.Grown.{Grown}
+use Rattle.reach.specs.work.Walked.{Walked}
 use Rattle.tree.specs.work.Meet.{Meets, Hung}
 use Rattle.net.proofs.Rooted.{above-inv}
 use Rattle.net.proofs.Above.{above-trans}
+use Rattle.net.proofs.Rises.{TwoRises, two-rises}
 use Rattle.reach.proofs.Grown.{same-place, root-place}
+use Rattle.reach.proofs.NetWalk.{walk-grown, walk-rooted}
 
 pub grown-hung : {n : ℕ} {parent order place : List ℕ} → Grown n parent order place → Hung n parent place
 grown-hung g =
@@ -93,9 +99,20 @@ module _ {n : ℕ} {parent place : List ℕ} (H : Hung n parent place) where
       ))
 
   -- what is on the climb of y below the meeting is not above x
-  pub meets-apart : {x y t z : ℕ} → x < n → Meets (at parent) x y t → Above (at parent) t z → Above (at parent) z y
+  meets-apart : {x y t z : ℕ} → x < n → Meets (at parent) x y t → Above (at parent) t z → Above (at parent) z y
       → z ≢ t → ¬ Above (at parent) z x
   meets-apart {x} {y} {t} {z} b m h k d a =
       let ft = fits-above b (m .first) in
       let fz = fits-above b a in
       d (H .same z t fz ft (omega (arith, later-up ft (m .lowest z a k), later-up fz h)))
+
+-- In the walk of an accepted net: the path from x to y has the rows of their climbs to where they meet
+module _ {s : List ℕ} {n : ℕ} {parent half order place : List ℕ} (N : Net s n)
+    (W : Walked (firstEnd s) (secondEnd s) (n - 1) n parent half order place) where
+  pub walk-hung : Hung n parent place
+  walk-hung = grown-hung (walk-grown N W)
+
+  pub walk-rises : {x y t : ℕ} {ups downs : List ℕ} → x < n → y < n → Meets (at parent) x y t
+      → Rise (at parent) (rowOf half) t x ups → Rise (at parent) (rowOf half) t y downs
+      → TwoRises (walk-rooted N W) x y ups downs
+  walk-rises bx by m h j = two-rises (walk-rooted N W) bx by h j (λ z a b d. meets-apart walk-hung bx m a b d)

@@ -30,6 +30,24 @@ pub enum Acceptance {
 pub fn accept(s: &[u8]) -> Acceptance
     ensures { λ r. ⌜ Accepts (now (s .entry)) r ⌝ }
 {
+    let mut parent: [u16; 4096] = [0; 4096];
+    let mut half: [u16; 4096] = [0; 4096];
+    let mut order: [u16; 4096] = [0; 4096];
+    let mut place: [u16; 4096] = [0; 4096];
+    accept_in(s, &mut parent, &mut half, &mut order, &mut place)
+}
+
+// Between crates: the same in lent arrays, those of the walk that the caller makes afterwards. Nothing is asked of them
+// and nothing promised.
+pub fn accept_in(
+    s: &[u8],
+    parent: &mut [u16; 4096],
+    half: &mut [u16; 4096],
+    order: &mut [u16; 4096],
+    place: &mut [u16; 4096],
+) -> Acceptance
+    ensures { λ r. ⌜ Accepts (now (s .entry)) r ⌝ }
+{
     let o = table::examine(s);
     match o {
         Opening::Refused(why) => Acceptance::Refused(Refusal {
@@ -37,28 +55,37 @@ pub fn accept(s: &[u8]) -> Acceptance
             row: why.row,
             ring: 0,
         }),
-        Opening::Opened { nodes, bound } => rings(s, nodes, bound),
+        Opening::Opened { nodes, bound } => { rings(s, nodes, bound, parent, half, order, place) }
     }
 }
 
 // Tests 11 and 12, of a table that has passed the others.
-fn rings(s: &[u8], nodes: u16, bound: u32) -> Acceptance
+fn rings(
+    s: &[u8],
+    nodes: u16,
+    bound: u32,
+    parent: &mut [u16; 4096],
+    half: &mut [u16; 4096],
+    order: &mut [u16; 4096],
+    place: &mut [u16; 4096],
+) -> Acceptance
     requires { ⌜ Fitting (now s) nodes ⌝ }
     ensures { λ r. ⌜ Rings Acceptance acceptanceRefusal (now (s .entry)) nodes
         (λ x. x ≡ Acceptance.Accepted nodes bound) r ⌝ }
 {
     let n = arrays::wide(nodes);
     let rows = n - 1;
-    let r = ring::first_closing(s, rows);
+    // Here parent has each node's climb to its root, and half the ranks; the walks below fill all four anew.
+    let r = ring::first_ring(s, rows, parent, half);
     if r < rows {
-        let g = round::ring_rows(s, r);
+        let g = round::count_round(s, r, parent, half, order, place);
         return Acceptance::Refused(Refusal {
             number: 11,
             row: r,
             ring: g,
         });
     }
-    if reach::reached(s, rows) < n {
+    if reach::reached(s, rows, parent, half, order, place) < n {
         return Acceptance::Refused(Refusal {
             number: 12,
             row: 0,

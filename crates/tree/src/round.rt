@@ -8,7 +8,7 @@ use reach::walk_from;
 
 // The walk over the rows before r, from its first end; then the climb from its second end to where the order begins.
 // Row r itself is one.
-fn count_round(
+pub(crate) fn count_round(
     s: &[u8],
     r: usize,
     parent: &mut [u16; 4096],
@@ -27,16 +27,4 @@ fn count_round(
         g += 1;
     }
     g
-}
-
-// The same, with arrays of its own.
-pub(crate) fn ring_rows(s: &[u8], r: usize) -> usize
-    requires { ⌜ Closing (now s) r ⌝ }
-    ensures { λ g. ⌜ RingRows (firstEnd (now (s .entry))) (secondEnd (now (s .entry))) r g ⌝ }
-{
-    let mut parent: [u16; 4096] = [4096; 4096];
-    let mut half: [u16; 4096] = [0; 4096];
-    let mut order: [u16; 4096] = [0; 4096];
-    let mut place: [u16; 4096] = [0; 4096];
-    count_round(s, r, &mut parent, &mut half, &mut order, &mut place)
 }

@@ -22,7 +22,7 @@ returns c =
     let wide-ensures = c .before .before .before .before .wide .ensures in
     let walk-ensures = c .before .before .before .before .before .walk .ensures in
     let pre = c .before .before .before .before .before .before .before .before .before .before .before .before .pre in
-    record { net = pre; half = _; walked = walk-ensures; branches = rw (wide-ensures .0) at (c .branches .ensures) }
+    record { net = pre; walked = walk-ensures; branches = rw (wide-ensures .0) at (c .branches .ensures) }
 
 pub grounded-spec : {M : Type 1} → statement M
 grounded-spec = tie.close (tie.spec walk-requires wide-requires branches-requires returns)

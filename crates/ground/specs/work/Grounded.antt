@@ -34,8 +34,7 @@ pub record Branches (s marks : List ℕ) (half : List ℕ) (i : ℕ) (bl bw : Li
   pub bw-long : length bw ≡ 4096
 
 -- what a sweep over an accepted net stands on: its walk, and its branches under the marks
-pub record Grounded (s marks : List ℕ) (n : ℕ) (parent order place bl bw : List ℕ) : Type 0 where
+pub record Grounded (s marks : List ℕ) (n : ℕ) (parent half order place bl bw : List ℕ) : Type 0 where
   pub net : Net s n
-  pub half : List ℕ
   pub walked : Walked (firstEnd s) (secondEnd s) (n - 1) n parent half order place
   pub branches : Branches s marks half n bl bw

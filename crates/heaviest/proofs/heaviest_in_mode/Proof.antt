@@ -6,8 +6,8 @@ use Rattle.heaviest.specs.Heaviest.{heaviestRefusal}
 use Rattle.heaviest.proofs.heaviest_in_mode.Statement.{statement}
 use Rattle.heaviest.proofs.heaviest_in_mode.Tie as tie
 
-accept-requires : tie.Need-accept-requires
-accept-requires c κs = search needs
+accept-in-requires : tie.Need-accept-in-requires
+accept-in-requires c κs = search needs
 
 enum-known-o : tie.Need-enum-known-o
 enum-known-o c = search needs
@@ -20,21 +20,27 @@ long-requires c κs = search needs
 
 choose-requires : tie.Need-choose-requires
 choose-requires c κs =
-    let accept-ensures = c .before .before .before .before .accept .ensures in
-    (admitted _ _ _ (rw (c .before .before .o2 .given .1) at accept-ensures) .net, c .long .ensures .1)
+    let long-ensures = c .before .before .before .before .long .ensures in
+    let o2-given = c .before .before .before .before .before .before .o2 .given in
+    let accept-in-ensures = c .before .before .before .before .before .before .before .before .accept-in .ensures in
+    (admitted _ _ _ (rw (o2-given .1) at accept-in-ensures) .net, long-ensures .1)
 
 returns : tie.Need-returns
-returns c = refused-on heaviestRefusal _ _ (rw (c .before .o .given .1) at (c .before .before .before .accept .ensures))
+returns c =
+    let accept-in-ensures = c .before .before .before .accept-in .ensures in
+    refused-on heaviestRefusal _ _ (rw (c .before .o .given .1) at accept-in-ensures)
 
 returns-2 : tie.Need-returns-2
 returns-2 c =
-    let o2-given = c .before .before .before .o2 .given in
-    let accept-ensures = c .before .before .before .before .before .accept .ensures in
-    let p = rw (o2-given .1) at accept-ensures in
+    let long-ensures = c .before .before .before .before .before .long .ensures in
+    let o2-given = c .before .before .before .before .before .before .before .o2 .given in
+    let back = c .before .before .before .before .before .before .before .before .before in
+    let accept-in-ensures = back .accept-in .ensures in
+    let p = rw (o2-given .1) at accept-in-ensures in
     let a = admitted _ _ _ p in
-    passed-on heaviestRefusal _ _ _ p (rw (c .before .long .ensures .0, a .nodes, a .bound) at (c .choose .ensures))
+    passed-on heaviestRefusal _ _ _ p (rw (long-ensures .0, a .nodes, a .bound) at (c .choose .ensures))
 
 pub heaviest-in-mode-spec : {M : Type 1} → statement M
 heaviest-in-mode-spec =
     tie.close
-    (tie.spec accept-requires enum-known-o enum-known-o-2 long-requires choose-requires returns returns-2)
+    (tie.spec accept-in-requires enum-known-o enum-known-o-2 long-requires choose-requires returns returns-2)

@@ -13,17 +13,17 @@ wide-requires c κs = search needs
 
 heaviest-pair-requires : tie.Need-heaviest-pair-requires
 heaviest-pair-requires c κs =
-    let wide-ensures = c .before .before .before .before .before .wide .ensures in
-    let grounded-ensures = c .before .before .before .before .before .before .grounded .ensures in
+    let wide-ensures = c .before .before .before .before .before .before .wide .ensures in
+    let grounded-ensures = c .before .before .before .before .before .before .before .grounded .ensures in
     let back = c .before .before .before .before .before .before .before .before .before .before .before in
-    let back = back .before .before .before in
+    let back = back .before .before .before .before .before in
     let pre = back .pre in
     (rw (wide-ensures .0) (ground grounded-ensures), pre .1)
 
 returns : tie.Need-returns
 returns c =
-    let grounded-ensures = c .before .before .before .before .before .before .before .grounded .ensures in
-    let e = c .before .before .before .before .before .before .wide .ensures .0 in
+    let grounded-ensures = c .before .before .before .before .before .before .before .before .grounded .ensures in
+    let e = c .before .before .before .before .before .before .before .wide .ensures .0 in
     rw e at (c .heaviest-pair .ensures (rw e (ground grounded-ensures)))
 
 pub search-spec : {M : Type 1} → statement M

@@ -5,10 +5,6 @@ use mathlib.Core.Logic.{_≢_}
 use mathlib.Core.List.{List}
 use lib.ListN.{length}
 use Rattle.arrays.specs.At.{at}
-use Rattle.spines.specs.work.Parents.{HeadsAll, SizesAll}
-use Rattle.paths.specs.work.Ground.{Ground}
-use Rattle.paths.specs.work.Paths.{Paths}
-use Rattle.layout.specs.work.Seats.{Seating}
 
 -- n nodes, each with a spot of its own
 pub record Spots (n : ℕ) (spot : List ℕ) : Type 0 where
@@ -23,25 +19,19 @@ pub record Laid (lo i : ℕ) (spot : List ℕ) (f : ℕ → ℕ) (to : List ℕ)
   pub each : (v : ℕ) → lo ≤ v → v < i → at to (at spot v) ≡ f v
   pub rest : (s : ℕ) → s < 4096 → ((v : ℕ) → lo ≤ v → v < i → at spot v ≢ s) → at to s ≡ 0
 
--- the ends, heads, parents and names of all spots
-pub record Numbering (n : ℕ) (parent place spot stops heads parents names : List ℕ) : Type 0 where
-  pub head : List ℕ
-  pub size : List ℕ
-  pub next : List ℕ
-  pub headed : HeadsAll n parent head
-  pub sized : SizesAll n parent size
-  pub seated : Seating n parent place head size n spot next
+-- what is asked to lay a net out: spots, with a span in front of each, and heads and parents that are nodes
+pub record Layable (n : ℕ) (parent head size spot : List ℕ) : Type 0 where
+  pub spots : Spots n spot
+  pub spans : (v : ℕ) → v < n → at spot v + at size v ≤ n
+  pub heads : (v : ℕ) → 1 ≤ v → v < n → at head v < n
+  pub parents : (v : ℕ) → 1 ≤ v → v < n → at parent v < n
+
+-- the ends, heads, parents and names of all spots, and the distances and lifted weights from the root: d and w are
+-- those of the nodes
+pub record LaidOut (n : ℕ) (parent head size spot d w stops heads parents names far heavy : List ℕ) : Type 0 where
   pub ended : Laid 0 n spot (λ v. at spot v + at size v) stops
   pub top : Laid 1 n spot (λ v. at spot (at head v)) heads
   pub above : Laid 1 n spot (λ v. at spot (at parent v)) parents
   pub named : Laid 0 n spot (λ v. v) names
-
--- and the distances and lifted weights from the root, by spot: d and w are those of the nodes
-pub record LaidOut (n : ℕ) (parent order place bl bw stops heads parents names far heavy : List ℕ) : Type 0 where
-  pub spot : List ℕ
-  pub d : List ℕ
-  pub w : List ℕ
-  pub numbering : Numbering n parent place spot stops heads parents names
-  pub paths : (g : Ground n parent order place bl bw) → Paths g 0 d w
   pub distances : Laid 0 n spot (λ v. at d v) far
   pub weights : Laid 0 n spot (λ v. at w v) heavy

@@ -27,12 +27,12 @@ same-length c = search needs
 
 returns-3 : tie.Need-returns-3
 returns-3 c =
-    let wide-ensures = c .before .before .before .before .before .before .wide .ensures in
-    let args = c .before .before .before .before .before .before .before .before .before .before .args in
-    let fits = c .before .before .before .before .before .before .before .before .before .before .fits in
+    let back = c .before .before .before .before .before .before .before .before .before .before in
+    let wide-ensures = back .wide .ensures in
+    let args = back .before .before .before .before .args in
+    let fits = back .before .before .before .before .fits in
     let e = toZ-ofZ w64 (args .floor) (fits .floor) in
-    passed (omega (arith, wide-ensures))
-    (passed (omega arith) (rw e at (c .before .before .page .ensures)))
+    passed (omega (arith, wide-ensures)) (passed (omega arith) (rw e at (c .before .before .page .ensures)))
 
 pub go-on-spec : {M : Type 1} → statement M
 go-on-spec =

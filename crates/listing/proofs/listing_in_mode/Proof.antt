@@ -8,8 +8,8 @@ use Rattle.listing.specs.Listing.{listingRefusal}
 use Rattle.listing.proofs.listing_in_mode.Statement.{statement}
 use Rattle.listing.proofs.listing_in_mode.Tie as tie
 
-accept-requires : tie.Need-accept-requires
-accept-requires c κs = search needs
+accept-in-requires : tie.Need-accept-in-requires
+accept-in-requires c κs = search needs
 
 enum-known-o : tie.Need-enum-known-o
 enum-known-o c = search needs
@@ -22,28 +22,29 @@ long-requires c κs = search needs
 
 go-on-requires : tie.Need-go-on-requires
 go-on-requires c κs =
-    let o2-given = c .before .before .before .o2 .given in
-    let accept-ensures = c .before .before .before .before .before .accept .ensures in
-    admitted _ _ _ (rw (o2-given .1) at accept-ensures) .net
+    let o2-given = c .before .before .before .before .before .before .before .o2 .given in
+    let back = c .before .before .before .before .before .before .before .before .before in
+    let accept-in-ensures = back .accept-in .ensures in
+    admitted _ _ _ (rw (o2-given .1) at accept-in-ensures) .net
 
 returns : tie.Need-returns
 returns c =
-    let accept-ensures = c .before .before .before .accept .ensures in
-    refused-on (listingRefusal _) _ _ (rw (c .before .o .given .1) at accept-ensures)
+    let accept-in-ensures = c .before .before .before .accept-in .ensures in
+    refused-on (listingRefusal _) _ _ (rw (c .before .o .given .1) at accept-in-ensures)
 
 same-length : tie.Need-same-length
 same-length c = search needs
 
 returns-2 : tie.Need-returns-2
 returns-2 c =
-    let long-ensures = c .before .before .before .before .long .ensures in
-    let o2-given = c .before .before .before .before .before .before .o2 .given in
-    let accept-ensures = c .before .before .before .before .before .before .before .before .accept .ensures in
-    let back = c .before .before .before .before .before .before .before .before .before .before .before in
-    let back = back .before in
+    let long-ensures = c .before .before .before .before .before .before .before .before .long .ensures in
+    let back = c .before .before .before .before .before .before .before .before .before .before in
+    let o2-given = back .o2 .given in
+    let accept-in-ensures = back .before .before .accept-in .ensures in
+    let back = back .before .before .before .before .before .before .before .before .before .before in
     let args = back .args in
     let fits = back .fits in
-    let p = rw (o2-given .1) at accept-ensures in
+    let p = rw (o2-given .1) at accept-in-ensures in
     let a = admitted _ _ _ p in
     let e = toZ-ofZ w64 (args .floor) (fits .floor) in
     passed-on (listingRefusal _) _ _ _ p
@@ -53,7 +54,7 @@ pub listing-in-mode-spec : {M : Type 1} → statement M
 listing-in-mode-spec =
     tie.close
     (tie.spec
-    accept-requires
+    accept-in-requires
     enum-known-o
     enum-known-o-2
     long-requires

@@ -27,12 +27,13 @@ returns-4 c =
 
 show-requires : tie.Need-show-requires
 show-requires c κs =
-    let pre = c .before .before .before .before .before .before .before .pre in
-    (pre, record { first = omega arith; second = omega arith; apart = λ e. omega (arith, e) })
+    let pre = c .before .before .before .before .before .before .before .before .before .before .before .pre in
+    let e = c .before .before .before .before .before .before .before .before .wide .ensures .0 in
+    (pre, omega arith, record { first = omega arith; second = omega arith; apart = λ e. omega (arith, e) })
 
 returns-5 : tie.Need-returns-5
 returns-5 c =
-    let wide-ensures = c .before .before .before .before .before .wide .ensures in
+    let wide-ensures = c .before .before .before .before .before .before .before .before .before .wide .ensures in
     passed (omega (arith, wide-ensures))
     (passed (record { first = omega arith; second = omega arith; apart = λ e. omega (arith, e) }) (c .show .ensures))
 

@@ -5,8 +5,8 @@ use borrow.Author.Needs.{needs}
 use Rattle.pair.proofs.pair.Statement.{statement}
 use Rattle.pair.proofs.pair.Tie as tie
 
-accept-requires : tie.Need-accept-requires
-accept-requires c κs = search needs
+accept-in-requires : tie.Need-accept-in-requires
+accept-in-requires c κs = search needs
 
 enum-known-o : tie.Need-enum-known-o
 enum-known-o c = search needs
@@ -16,24 +16,30 @@ enum-known-o-2 c = search needs
 
 measure-requires : tie.Need-measure-requires
 measure-requires c κs =
-    let accept-ensures = c .before .before .before .accept .ensures in
-    let args = c .before .before .before .before .before .before .args in
-    admitted (args .s .now) _ _ (rw (c .before .o2 .given .1) at accept-ensures) .net
+    let o2-given = c .before .before .before .before .before .o2 .given in
+    let accept-in-ensures = c .before .before .before .before .before .before .before .accept-in .ensures in
+    let back = c .before .before .before .before .before .before .before .before .before .before .before in
+    let back = back .before .before .before in
+    let args = back .args in
+    admitted (args .s .now) _ _ (rw (o2-given .1) at accept-in-ensures) .net
 
 returns : tie.Need-returns
 returns c =
-    let accept-ensures = c .before .before .before .accept .ensures in
-    let args = c .before .before .before .before .before .before .args in
-    refused-on pairRefusal (args .s .now) _ (rw (c .before .o .given .1) at accept-ensures)
+    let accept-in-ensures = c .before .before .before .accept-in .ensures in
+    let args = c .before .before .before .before .before .before .before .before .before .before .args in
+    refused-on pairRefusal (args .s .now) _ (rw (c .before .o .given .1) at accept-in-ensures)
 
 returns-2 : tie.Need-returns-2
 returns-2 c =
-    let accept-ensures = c .before .before .before .before .accept .ensures in
-    let args = c .before .before .before .before .before .before .before .args in
-    let p = rw (c .before .before .o2 .given .1) at accept-ensures in
+    let o2-given = c .before .before .before .before .before .before .o2 .given in
+    let accept-in-ensures = c .before .before .before .before .before .before .before .before .accept-in .ensures in
+    let back = c .before .before .before .before .before .before .before .before .before .before .before in
+    let back = back .before .before .before .before in
+    let args = back .args in
+    let p = rw (o2-given .1) at accept-in-ensures in
     passed-on pairRefusal (args .s .now) _ _ p (rw (admitted (args .s .now) _ _ p .nodes) at (c .measure .ensures))
 
 pub pair-spec : {M : Type 1} → statement M
 pair-spec =
     tie.close
-    (tie.spec accept-requires enum-known-o enum-known-o-2 measure-requires returns returns-2)
+    (tie.spec accept-in-requires enum-known-o enum-known-o-2 measure-requires returns returns-2)

@@ -11,6 +11,7 @@ use Rattle.reach.specs.work.Half.{from}
 use Rattle.reach.specs.work.Walked.{Reached, High, Falls, Walked}
 use Rattle.net.specs.work.Rows.{Readable}
 use Rattle.reach.specs.work.Chains.{Chained}
+use Rattle.reach.specs.work.Placing.{Placed}
 
 -- m nodes are in the order, which begins with the node start
 pub record Queue (start : ℕ) (us vs : ℕ → ℕ) (rows m : ℕ) (parent half order place : List ℕ) : Type 0 where
@@ -39,11 +40,11 @@ pub record Outer (start : ℕ) (us vs : ℕ → ℕ) (rows head m : ℕ) (parent
 
 -- what a visit of the node at the place head asks
 pub record Visits (start : ℕ) (s : List ℕ) (rows : ℕ) (first next : List ℕ) (head tail : ℕ)
-    (parent half order place : List ℕ) : Type 0 where
+    (parent half order : List ℕ) : Type 0 where
   pub readable : Readable s rows
   pub chains : Chained (firstEnd s) (secondEnd s) rows (2 * rows) first next
   pub ahead : head < tail
-  pub outer : Outer start (firstEnd s) (secondEnd s) rows head tail parent half order place
+  pub outer : Placed (Outer start (firstEnd s) (secondEnd s) rows head tail parent half order)
 
 -- m nodes are joined to node 0, as some walk found
 pub record Reaches (us vs : ℕ → ℕ) (rows m : ℕ) : Type 0 where

@@ -1,11 +1,12 @@
 -- What a walk leaves in four arrays: for each node its parent, the half-branch by which it was reached and its place in
 -- the order; for each place the node.
-use Prim.Native.Nat.{ℕ, _*_, _≤_, _<_}
+use Prim.Native.Nat.{ℕ, _-_, _*_, _≤_, _<_}
 use mathlib.Core.Path.{_≡_}
 use mathlib.Core.List.{List}
 use lib.ListN.{length}
 use Rattle.arrays.specs.At.{at}
 use Rattle.net.specs.Graph.{First, Joined}
+use Rattle.net.specs.Net.{firstEnd, secondEnd}
 use Rattle.reach.specs.work.Half.{from}
 
 -- v was reached by the half-branch half v, from its parent
@@ -47,3 +48,8 @@ pub record WalkedFrom (start : ℕ) (us vs : ℕ → ℕ) (rows m : ℕ) (parent
 -- the walk from the root, node 0
 abbrev pub Walked : (us vs : ℕ → ℕ) (rows m : ℕ) (parent half order place : List ℕ) → Type 0
 Walked = WalkedFrom 0
+
+-- the walk's arrays of the net of n nodes that the table s holds, whatever its order
+pub record WalkOf (s : List ℕ) (n : ℕ) (parent half place : List ℕ) : Type 0 where
+  pub order : List ℕ
+  pub walked : Walked (firstEnd s) (secondEnd s) (n - 1) n parent half order place

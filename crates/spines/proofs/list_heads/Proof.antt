@@ -1,6 +1,7 @@
--- `list_heads` meets its contract: 20 by the list's length; else the heads by the walk's arrays are those of the net,
--- and all of them are copied.
+-- `list_heads` meets its contract: 20 by the list's length; else the heads by the walk's parents and order are those of
+-- the net, wherever they stand, and all of them are copied.
 use Rattle.table.specs.Refuse.{refused}
+use Rattle.reach.proofs.Grown.{ordered}
 use Rattle.reach.proofs.NetWalk.{walk-grown}
 use Rattle.spines.proofs.HeadsOnly.{heads-listed}
 use native.Mathlib.Omega.{arith}
@@ -23,7 +24,7 @@ heads-of-requires c κs =
     let back = c .before .before .before .before .before .before .before .before .before .before in
     let wide-ensures = back .wide .ensures in
     let pre = back .before .before .before .pre in
-    rw (wide-ensures .0) (walk-grown pre walk-ensures)
+    rw (wide-ensures .0) (ordered (walk-grown pre walk-ensures))
 
 copy-requires : tie.Need-copy-requires
 copy-requires c κs = search needs

@@ -4,7 +4,7 @@
 use Prim.Native.Nat.{_-_, _≤_, _<_}
 use native.Mathlib.Omega.{arith}
 use borrow.Author.Needs.{needs}
-use Rattle.reach.specs.work.Grown.{Grown}
+use Rattle.reach.specs.work.Grown.{Ordered}
 use Rattle.reach.proofs.Grown.{read-node, read-parent}
 use Rattle.spines.proofs.Backward.{Given}
 use Rattle.spines.proofs.SizeSweep.{Node, sizes-none, sizes-next, sizes-all, sizes-fit, size-fits, root-size}
@@ -12,17 +12,19 @@ use Rattle.spines.proofs.sizes_of.Statement.{statement}
 use Rattle.spines.proofs.sizes_of.Tie as tie
 
 abbrev Inv-loop : tie.InvT-loop
-Inv-loop parent order place n size₀ i₀ size i =
-    Given (Node n) n parent place i size × Grown n parent order place × (0 < i) × (i ≤ n)
+Inv-loop parent order n size₀ i₀ size i =
+    (k : Ordered n parent order) × Given (Node n) n parent (k .place) i size × (0 < i) × (i ≤ n)
 
 abbrev μ-loop : tie.MeasureT-loop
-μ-loop parent order place n size₀ i₀ size i = i
+μ-loop parent order n size₀ i₀ size i = i
 
 fill-requires : tie.Need-fill-requires Inv-loop μ-loop
 fill-requires c κs = search needs
 
 loop-holds : tie.Need-loop-holds Inv-loop μ-loop
-loop-holds c = let g = c .before .before .pre in (sizes-none g _ (c .fill .ensures), g, g .some .0, omega arith)
+loop-holds c =
+    let k = c .before .before .pre in
+    (k, sizes-none (k .holds) _ (c .fill .ensures), k .holds .some .0, omega arith)
 
 sub-i : tie.Need-sub-i Inv-loop μ-loop
 sub-i c = omega arith
@@ -40,13 +42,13 @@ node-in : (c : tie.After-wide Inv-loop μ-loop) → c .wide .result < 4096
 node-in c =
     let loop-i = c .before .before .before .loop .i in
     let h = c .before .before .before .loop .inv in
-    read-node (h .1) (loop-i - 1) _ (omega arith) (c .wide .ensures .0)
+    read-node (h .0 .holds) (loop-i - 1) _ (omega arith) (c .wide .ensures .0)
 
 parent-in : (c : tie.After-wide2 Inv-loop μ-loop) → c .wide2 .result < 4096
 parent-in c =
     let loop-i = c .before .before .before .before .before .loop .i in
     let h = c .before .before .before .before .before .loop .inv in
-    read-parent (h .1) (loop-i - 1) _ _ (omega arith) (omega arith) (c .before .before .wide .ensures .0)
+    read-parent (h .0 .holds) (loop-i - 1) _ _ (omega arith) (omega arith) (c .before .before .wide .ensures .0)
     (c .wide2 .ensures .0)
 
 mul-wide-2 : tie.Need-mul-wide-2 Inv-loop μ-loop
@@ -71,8 +73,8 @@ add-w c =
     let h = c .before .before .before .before .before .before .loop .inv in
     omega (
       arith,
-      h .1 .some .1,
-      size-fits (h .1) _ _ _ _ loop-test-taken (h .3) (wide-ensures .0) (c .before .wide2 .ensures .0) (h .0),
+      h .0 .holds .some .1,
+      size-fits (h .0 .holds) _ _ _ _ loop-test-taken (h .3) (wide-ensures .0) (c .before .wide2 .ensures .0) (h .1),
     )
 
 mul-y : tie.Need-mul-y Inv-loop μ-loop
@@ -88,8 +90,9 @@ add-y c =
     let h = c .before .before .before .before .before .before .before .loop .inv in
     omega (
       arith,
-      h .1 .some .1,
-      sizes-fit (h .1) _ _ _ _ loop-test-taken (h .3) (wide-ensures .0) (c .before .before .wide2 .ensures .0) (h .0),
+      h .0 .holds .some .1,
+      sizes-fit (h .0 .holds) _ _ _ _ loop-test-taken (h .3) (wide-ensures .0) (c .before .before .wide2 .ensures .0)
+          (h .1),
     )
 
 mul-size : tie.Need-mul-size Inv-loop μ-loop
@@ -112,8 +115,9 @@ loop-again c =
     let wide-ensures = c .before .before .before .before .wide .ensures in
     let loop-test-taken = c .before .before .before .before .before .before .loop-test .taken in
     let h = c .before .before .before .before .before .before .before .loop .inv in (
-      sizes-next (h .1) _ _ _ _ loop-test-taken (h .3) (wide-ensures .0) (c .before .before .wide2 .ensures .0) (h .0),
-      h .1,
+      h .0,
+      sizes-next (h .0 .holds) _ _ _ _ loop-test-taken (h .3) (wide-ensures .0) (c .before .before .wide2 .ensures .0)
+          (h .1),
       omega arith,
       omega arith,
     )
@@ -124,13 +128,13 @@ element-copy-out-w-2 c = omega arith
 add-w-2 : tie.Need-add-w-2 Inv-loop μ-loop
 add-w-2 c =
     let h = c .before .before .loop .inv in
-    omega (arith, h .1 .some .1, root-size (h .1) _ _ (omega arith) (h .2) (h .0))
+    omega (arith, h .0 .holds .some .1, root-size (h .0 .holds) _ _ (omega arith) (h .2) (h .1))
 
 element-write-size-3 : tie.Need-element-write-size-3 Inv-loop μ-loop
 element-write-size-3 c = omega arith
 
 returns : tie.Need-returns Inv-loop μ-loop
-returns c = let h = c .before .before .loop .inv in sizes-all (h .1) _ _ (omega arith) (h .2) (h .0)
+returns c = let h = c .before .before .loop .inv in sizes-all (h .0 .holds) _ _ (omega arith) (h .2) (h .1)
 
 pub sizes-of-spec : {M : Type 1} → statement M
 sizes-of-spec =

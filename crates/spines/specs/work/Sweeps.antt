@@ -1,11 +1,12 @@
--- The sweeps: leaf counts, and the main children as the sweep over node numbers finds them.
+-- The sweeps: leaf counts, main children, heads. What a later sweep needs of the counts is said of the main children,
+-- so that the counts' array can be overwritten.
 use Prim.Native.Nat.{ℕ, _≤_, _<_}
 use mathlib.Core.Path.{_≡_}
 use mathlib.Core.Logic.{_≢_}
 use mathlib.Core.List.{List}
 use lib.ListN.{length}
 use Rattle.arrays.specs.At.{at}
-use Rattle.spines.specs.Spine.{Leaves}
+use Rattle.spines.specs.Spine.{Leaves, Main}
 use Rattle.spines.specs.work.Parents.{Child}
 
 -- how many leaves are below each node
@@ -18,16 +19,15 @@ pub record Least (x w : ℕ) : Type 0 where
   pub none : x ≡ 0 → w ≡ 1
   pub some : x ≢ 0 → w ≡ x
 
--- q is the best of p's children below c, or 4096 where there is none
-pub record BestChild (n : ℕ) (par leaves : ℕ → ℕ) (c p q : ℕ) : Type 0 where
-  pub none : q ≡ 4096 → (d : ℕ) → d < c → ¬ Child n par p d
-  pub below : q ≢ 4096 → q < c
-  pub child : q ≢ 4096 → Child n par p q
-  pub most : q ≢ 4096 → (d : ℕ) → d < c → Child n par p d → (leaves d ≤ leaves q) × (leaves d ≡ leaves q → q ≤ d)
+-- q is the main child of p, or 4096 where p has none
+pub record MainOrNone (n : ℕ) (par : ℕ → ℕ) (p q : ℕ) : Type 0 where
+  pub is : q ≢ 4096 → Main (Child n par) n p q
+  pub only : (c : ℕ) → Main (Child n par) n p c → q ≡ c
 
-pub record BestChildren (n : ℕ) (parent leaves : List ℕ) (c : ℕ) (main : List ℕ) : Type 0 where
+-- each node's main child
+pub record MainsAll (n : ℕ) (parent main : List ℕ) : Type 0 where
   pub long : length main ≡ 4096
-  pub each : (p : ℕ) → p < n → BestChild n (at parent) (at leaves) c p (at main p)
+  pub each : (p : ℕ) → p < n → MainOrNone n (at parent) p (at main p)
 
 -- c takes the place of q where it is better
 pub record MainTaken (leaves : List ℕ) (q c r : ℕ) : Type 0 where

@@ -13,39 +13,42 @@ wide-requires c κs = search needs
 sub-rows : tie.Need-sub-rows
 sub-rows c = search needs
 
-first-closing-requires : tie.Need-first-closing-requires
-first-closing-requires c κs = rw (c .wide .ensures .0) (fitting-readable (c .before .before .pre))
-
-ring-rows-requires : tie.Need-ring-rows-requires
-ring-rows-requires c κs =
-    let pre = c .before .before .before .before .pre in
-    let e = c .before .before .wide .ensures .0 in
-    found-closing pre (rw e at (c .before .first-closing .ensures)) (omega (arith, e))
-
-returns : tie.Need-returns
-returns c =
-    let e = c .before .before .before .wide .ensures .0 in
-    rings-bad _ _ _ _ (rw e at (c .before .before .first-closing .ensures)) (omega (arith, e)) (c .ring-rows .ensures)
-
-reached-requires : tie.Need-reached-requires
-reached-requires c κs =
+first-ring-requires : tie.Need-first-ring-requires
+first-ring-requires c κs =
     let pre = c .before .before .before .before .pre in
     rw (c .before .before .wide .ensures .0) (fitting-readable pre)
 
+count-round-requires : tie.Need-count-round-requires
+count-round-requires c κs =
+    let pre = c .before .before .before .before .before .before .before .before .before .before .pre in
+    let e = c .before .before .before .before .before .before .before .before .wide .ensures .0 in
+    found-closing pre (rw e at (c .before .before .before .before .before .first-ring .ensures)) (omega (arith, e))
+
+returns : tie.Need-returns
+returns c =
+    let first-ring-ensures = c .before .before .before .before .before .before .first-ring .ensures in
+    let e = c .before .before .before .before .before .before .before .before .before .wide .ensures .0 in
+    rings-bad _ _ _ _ (rw e at first-ring-ensures) (omega (arith, e)) (c .count-round .ensures)
+
+reached-requires : tie.Need-reached-requires
+reached-requires c κs =
+    let pre = c .before .before .before .before .before .before .before .before .before .before .pre in
+    rw (c .before .before .before .before .before .before .before .before .wide .ensures .0) (fitting-readable pre)
+
 returns-2 : tie.Need-returns-2
 returns-2 c =
-    let first-closing-ensures = c .before .before .before .first-closing .ensures in
-    let pre = c .before .before .before .before .before .before .pre in
-    let e = c .before .before .before .before .wide .ensures .0 in
-    rings-apart _ _ _ (rw e at first-closing-ensures) (omega (arith, e)) pre _ (rw e at (c .before .reached .ensures))
+    let first-ring-ensures = c .before .before .before .before .before .before .before .first-ring .ensures in
+    let pre = c .before .before .before .before .before .before .before .before .before .before .before .before .pre in
+    let e = c .before .before .before .before .before .before .before .before .before .before .wide .ensures .0 in
+    rings-apart _ _ _ (rw e at first-ring-ensures) (omega (arith, e)) pre _ (rw e at (c .before .reached .ensures))
     (omega (arith, e))
 
 returns-3 : tie.Need-returns-3
 returns-3 c =
-    let first-closing-ensures = c .before .before .before .first-closing .ensures in
-    let pre = c .before .before .before .before .before .before .pre in
-    let e = c .before .before .before .before .wide .ensures .0 in
-    rings-whole _ _ _ (rw e at first-closing-ensures) (omega (arith, e)) pre _ (rw e at (c .before .reached .ensures))
+    let first-ring-ensures = c .before .before .before .before .before .before .before .first-ring .ensures in
+    let pre = c .before .before .before .before .before .before .before .before .before .before .before .before .pre in
+    let e = c .before .before .before .before .before .before .before .before .before .before .wide .ensures .0 in
+    rings-whole _ _ _ (rw e at first-ring-ensures) (omega (arith, e)) pre _ (rw e at (c .before .reached .ensures))
     (omega (arith, e)) refl
 
 pub rings-spec : {M : Type 1} → statement M
@@ -54,8 +57,8 @@ rings-spec =
     (tie.spec
     wide-requires
     sub-rows
-    first-closing-requires
-    ring-rows-requires
+    first-ring-requires
+    count-round-requires
     returns
     reached-requires
     returns-2

@@ -1,6 +1,12 @@
--- `marks::along::claim_pair` meets its contract: 13, 14 and 15 as the tests have it, then as `claim_walked` says.
-use Rattle.table.specs.Refuse.{refused, passed}
+-- `marks::along::claim_pair` meets its contract: 13, 14 and 15 as the tests have it, then as `claim_walked` says. What
+-- a passed test shows is said once, where it is known first.
+use Prim.Native.Nat.{_-_}
+use mathlib.Core.Path.{_≡_}
+use lib.ListN.{length}
 use native.Mathlib.Omega.{arith}
+use Rattle.table.specs.Refuse.{refused, passed}
+use Rattle.net.specs.Net.{TwoNodes}
+use Rattle.marks.specs.Mark.{RunNumber}
 use borrow.Author.Needs.{needs}
 use Rattle.changes.proofs.along.claim_pair.Statement.{statement}
 use Rattle.changes.proofs.along.claim_pair.Tie as tie
@@ -16,61 +22,53 @@ returns c =
     let pre = c .before .before .before .before .pre in
     refused (λ e. omega (arith, c .if1 .taken, c .before .wide .ensures .0, pre .some))
 
+marked : (c : tie.Else1)
+    → length (c .before .before .before .before .args .marks .now) ≡ c .before .before .before .before .args .nodes - 1
+marked c = omega (arith, c .if1 .left, c .before .wide .ensures .0)
+
 returns-2 : tie.Need-returns-2
-returns-2 c =
-    passed (omega (arith, c .before .if1 .left, c .before .before .wide .ensures .0))
-    (refused (λ n. omega (arith, n .above)))
+returns-2 c = passed (marked (c .before)) (refused (λ n. omega (arith, n .above)))
 
 returns-3 : tie.Need-returns-3
-returns-3 c =
-    let wide-ensures = c .before .before .before .wide .ensures in
-    passed (omega (arith, c .before .before .if1 .left, wide-ensures .0)) (refused (λ n. omega (arith, n .below)))
+returns-3 c = passed (marked (c .before .before)) (refused (λ n. omega (arith, n .below)))
+
+numbered : (c : tie.Else3) → RunNumber (c .before .before .before .before .before .before .args .run)
+numbered c = record { above = omega (arith, c .before .if2 .left); below = omega (arith, c .if3 .left) }
 
 returns-4 : tie.Need-returns-4
 returns-4 c =
-    let if1-left = c .before .before .before .if1 .left in
-    let wide-ensures = c .before .before .before .before .wide .ensures in
-    passed (omega (arith, if1-left, wide-ensures .0))
-    (passed
-    (record { above = omega (arith, c .before .before .if2 .left); below = omega (arith, c .before .if3 .left) })
-    (refused (λ p. omega (arith, p .first))))
+    passed (marked (c .before .before .before))
+    (passed (numbered (c .before)) (refused (λ p. omega (arith, p .first))))
 
 returns-5 : tie.Need-returns-5
 returns-5 c =
-    let if2-left = c .before .before .before .if2 .left in
-    let if1-left = c .before .before .before .before .if1 .left in
-    let wide-ensures = c .before .before .before .before .before .wide .ensures in
-    passed (omega (arith, if1-left, wide-ensures .0))
-    (passed (record { above = omega (arith, if2-left); below = omega (arith, c .before .before .if3 .left) })
-    (refused (λ p. omega (arith, p .second))))
+    passed (marked (c .before .before .before .before))
+    (passed (numbered (c .before .before)) (refused (λ p. omega (arith, p .second))))
 
 returns-6 : tie.Need-returns-6
 returns-6 c =
-    let if3-left = c .before .before .before .if3 .left in
-    let if2-left = c .before .before .before .before .if2 .left in
-    let if1-left = c .before .before .before .before .before .if1 .left in
-    let wide-ensures = c .before .before .before .before .before .before .wide .ensures in
-    passed (omega (arith, if1-left, wide-ensures .0))
-    (passed (record { above = omega (arith, if2-left); below = omega (arith, if3-left) })
-    (refused (λ p. p .apart (c .if6 .taken))))
+    passed (marked (c .before .before .before .before .before))
+    (passed (numbered (c .before .before .before)) (refused (λ p. p .apart (c .if6 .taken))))
+
+two : (c : tie.Else6)
+    → TwoNodes (c .before .before .before .before .before .before .before .before .before .args .nodes)
+    (c .before .before .before .before .before .before .before .before .before .args .a)
+    (c .before .before .before .before .before .before .before .before .before .args .b)
+two c =
+    record {
+      first = omega (arith, c .before .before .if4 .left);
+      second = omega (arith, c .before .if5 .left);
+      apart = c .if6 .left;
+    }
 
 claim-walked-requires : tie.Need-claim-walked-requires
 claim-walked-requires c κs =
-    let if4-left = c .before .before .before .if4 .left in
-    let if3-left = c .before .before .before .before .if3 .left in
-    let if2-left = c .before .before .before .before .before .if2 .left in
-    let if1-left = c .before .before .before .before .before .before .if1 .left in
-    let wide-ensures = c .before .before .before .before .before .before .before .wide .ensures in
-    let pre = c .before .before .before .before .before .before .before .before .before .before .pre in
+    let past = c .before .before .before .before .before in
     record {
-      net = pre;
-      many = omega (arith, if1-left, wide-ensures .0);
-      number = record { above = omega (arith, if2-left); below = omega (arith, if3-left) };
-      pair = record {
-        first = omega (arith, if4-left);
-        second = omega (arith, c .before .before .if5 .left);
-        apart = c .before .if6 .left;
-      };
+      net = past .before .before .before .before .before .before .before .before .before .pre;
+      many = marked (past .before .before .before .before .before);
+      number = numbered (past .before .before .before);
+      pair = two past;
     }
 
 same-length : tie.Need-same-length
@@ -78,18 +76,9 @@ same-length c = search needs
 
 returns-7 : tie.Need-returns-7
 returns-7 c =
-    let if6-left = c .before .before .before .before .if6 .left in
-    let if5-left = c .before .before .before .before .before .if5 .left in
-    let if4-left = c .before .before .before .before .before .before .if4 .left in
-    let if3-left = c .before .before .before .before .before .before .before .if3 .left in
-    let if2-left = c .before .before .before .before .before .before .before .before .if2 .left in
-    let back = c .before .before .before .before .before .before .before .before .before in
-    let if1-left = back .if1 .left in
-    let wide-ensures = back .before .wide .ensures in
-    passed (omega (arith, if1-left, wide-ensures .0))
-    (passed (record { above = omega (arith, if2-left); below = omega (arith, if3-left) })
-    (passed (record { first = omega (arith, if4-left); second = omega (arith, if5-left); apart = if6-left })
-    (c .before .before .claim-walked .ensures)))
+    let past = c .before .before .before .before .before .before .before .before in
+    passed (marked (past .before .before .before .before .before))
+    (passed (numbered (past .before .before .before)) (passed (two past) (c .before .before .claim-walked .ensures)))
 
 pub claim-pair-spec : {M : Type 1} → statement M
 claim-pair-spec =

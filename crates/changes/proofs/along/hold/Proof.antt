@@ -1,15 +1,8 @@
 -- `marks::along::hold` meets its contract. The loop's invariant: the rows behind and the rows ahead are the climb's,
 -- and the free ones behind are held. Short of t the climb stands at a node (`node-in`).
 use Rattle.arrays.specs.At.{at}
-use Rattle.changes.proofs.Climbing.{
-  Taking,
-  taking-start,
-  taking-row,
-  taking-step,
-  taking-end,
-  along-fits,
-  along-less,
-}
+use Rattle.net.proofs.Along.{along-fits, along-less}
+use Rattle.changes.proofs.Climbing.{Taking, taking-start, taking-row, taking-step, taking-end}
 use Prim.Native.Nat.{_/_, _<_, ℕ}
 use mathlib.Core.Path.{ap}
 use native.Mathlib.Omega.{arith}

@@ -16,20 +16,24 @@ use Rattle.listing.proofs.scan.firsts.Statement.{statement}
 use Rattle.listing.proofs.scan.firsts.Tie as tie
 
 abbrev Inv-loop : tie.InvT-loop
-Inv-loop parent order place bl bw n limit floor low high rows₀ above₀ len₀ wt₀ room f k₀ u₀ rows above len wt k u =
+Inv-loop parent order place bl bw n limit floor low high above₀ rows₀ len₀ wt₀ room f k₀ u₀ above rows len wt k u =
     Scanning n parent order place bl bw (Fits limit) (toZ w64 floor) low high rows₀ room f u (k .given) (k .left) rows
     × Ground n parent order place bl bw
     × ArraysLent above len wt
 
 abbrev μ-loop : tie.MeasureT-loop
-μ-loop parent order place bl bw n limit floor low high rows₀ above₀ len₀ wt₀ room f k₀ u₀ rows above len wt k u =
+μ-loop parent order place bl bw n limit floor low high above₀ rows₀ len₀ wt₀ room f k₀ u₀ above rows len wt k u =
     n - u
 
 raised-requires : tie.Need-raised-requires Inv-loop μ-loop
 raised-requires c κs = search needs
 
 loop-holds : tie.Need-loop-holds Inv-loop μ-loop
-loop-holds c = (scanning-start refl (c .raised .ensures), c .before .before .pre, fresh)
+loop-holds c = (
+  scanning-start refl (c .raised .ensures),
+  c .before .before .pre .0,
+  record { flags = c .before .before .pre .1; lengths = fresh .lengths; weights = fresh .weights },
+)
 
 paths-from-requires : tie.Need-paths-from-requires Inv-loop μ-loop
 paths-from-requires c κs =

@@ -22,22 +22,23 @@ wide-requires-3 c κs = search needs
 
 firsts-requires : tie.Need-firsts-requires
 firsts-requires c κs =
-    let wide-ensures = c .before .before .before .before .before .before .before .before .wide .ensures in
     let back = c .before .before .before .before .before .before .before .before .before in
-    let grounded-ensures = back .grounded .ensures in
-    rw (wide-ensures .0) (ground grounded-ensures)
+    let wide-ensures = back .wide .ensures in
+    let grounded-ensures = back .before .grounded .ensures in
+    (rw (wide-ensures .0) (ground grounded-ensures), grounded-ensures .walked .long .1)
 
 same-length : tie.Need-same-length
 same-length c = search needs
 
 returns : tie.Need-returns
 returns c =
-    let wide3-ensures = c .before .before .before .before .wide3 .ensures in
-    let wide2-ensures = c .before .before .before .before .before .wide2 .ensures in
+    let wide3-ensures = c .before .before .before .before .before .wide3 .ensures in
+    let wide2-ensures = c .before .before .before .before .before .before .wide2 .ensures in
     let back = c .before .before .before .before .before .before .before .before .before .before .before in
+    let back = back .before in
     let wide-ensures = back .wide .ensures in
     let grounded-ensures = back .before .grounded .ensures in
-    let back = back .before .before .before .before .before .before .before .before .before .before in
+    let back = back .before .before .before .before .before .before .before .before .before .before .before in
     let args = back .args in
     let fits = back .fits in
     let e = toZ-ofZ w64 (args .floor) (fits .floor) in

@@ -3,31 +3,27 @@
 use Prim.Native.Nat.{_-_, _<_}
 use native.Mathlib.Omega.{arith}
 use borrow.Author.Needs.{needs}
-use Rattle.reach.specs.work.Grown.{Grown}
+use Rattle.reach.specs.work.Grown.{Ordered}
 use Rattle.reach.proofs.Grown.{read-node, read-parent}
-use Rattle.spines.specs.work.Sweeps.{LeavesAll, BestChildren}
+use Rattle.spines.specs.work.Sweeps.{MainsAll}
 use Rattle.spines.proofs.HeadSweep.{Heads, heads-one, heads-more, heads-all}
 use Rattle.spines.proofs.sweeps.follow_mains.Statement.{statement}
 use Rattle.spines.proofs.sweeps.follow_mains.Tie as tie
 
 abbrev Inv-loop : tie.InvT-loop
-Inv-loop parent order place leaves main n head₀ i₀ head i =
-    Heads n parent order i head
-    × Grown n parent order place
-    × LeavesAll n parent leaves
-    × BestChildren n parent leaves n main
-    × (0 < i)
+Inv-loop parent order main n head₀ i₀ head i =
+    Heads n parent order i head × Ordered n parent order × MainsAll n parent main × (0 < i)
 
 abbrev μ-loop : tie.MeasureT-loop
-μ-loop parent order place leaves main n head₀ i₀ head i = n - i
+μ-loop parent order main n head₀ i₀ head i = n - i
 
 fill-requires : tie.Need-fill-requires Inv-loop μ-loop
 fill-requires c κs = search needs
 
 loop-holds : tie.Need-loop-holds Inv-loop μ-loop
 loop-holds c =
-    let g = c .before .before .pre in
-    (heads-one (g .0) (g .1) (g .2) _ (c .fill .ensures), g .0, g .1, g .2, omega arith)
+    let pre = c .before .before .pre in
+    (heads-one (pre .0 .holds) (pre .1) _ (c .fill .ensures), pre .0, pre .1, omega arith)
 
 mul-wide : tie.Need-mul-wide Inv-loop μ-loop
 mul-wide c = omega arith
@@ -41,13 +37,13 @@ wide-requires c κs = search needs
 node-in : (c : tie.After-wide Inv-loop μ-loop) → c .wide .result < 4096
 node-in c =
     let loop = c .before .before .before .loop in
-    read-node (loop .inv .1) (loop .i) _ (c .before .before .loop-test .taken) (c .wide .ensures .0)
+    read-node (loop .inv .1 .holds) (loop .i) _ (c .before .before .loop-test .taken) (c .wide .ensures .0)
 
 parent-in : (c : tie.After-wide2 Inv-loop μ-loop) → c .wide2 .result < 4096
 parent-in c =
     let loop-test-taken = c .before .before .before .before .loop-test .taken in
     let loop = c .before .before .before .before .before .loop in
-    read-parent (loop .inv .1) (loop .i) _ _ (omega arith) loop-test-taken (c .before .before .wide .ensures .0)
+    read-parent (loop .inv .1 .holds) (loop .i) _ _ (omega arith) loop-test-taken (c .before .before .wide .ensures .0)
     (c .wide2 .ensures .0)
 
 mul-wide-2 : tie.Need-mul-wide-2 Inv-loop μ-loop
@@ -92,16 +88,15 @@ loop-again c =
     let wide-ensures = c .before .before .before .before .before .wide .ensures in
     let loop-test-taken = c .before .before .before .before .before .before .before .loop-test .taken in
     let h = c .before .before .before .before .before .before .before .before .loop .inv in (
-      heads-more (h .1) (h .2) (h .3) _ _ _ _ _ (h .4) loop-test-taken (wide-ensures .0) (wide2-ensures .0) (h .0)
+      heads-more (h .1 .holds) (h .2) _ _ _ _ _ (h .3) loop-test-taken (wide-ensures .0) (wide2-ensures .0) (h .0)
           (c .follow .ensures),
       h .1,
       h .2,
-      h .3,
       omega arith,
     )
 
 returns : tie.Need-returns Inv-loop μ-loop
-returns c = let h = c .before .loop .inv in heads-all (h .1) (h .2) (h .3) _ _ (omega arith) (h .0)
+returns c = let h = c .before .loop .inv in heads-all (h .1 .holds) (h .2) _ _ (omega arith) (h .0)
 
 pub follow-mains-spec : {M : Type 1} → statement M
 follow-mains-spec =

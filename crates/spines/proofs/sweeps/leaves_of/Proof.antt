@@ -5,7 +5,7 @@ use Prim.Native.Nat.{_-_, _≤_, _<_}
 use native.Mathlib.Omega.{arith}
 use borrow.Author.Needs.{needs}
 use Rattle.arrays.specs.At.{at}
-use Rattle.reach.specs.work.Grown.{Grown}
+use Rattle.reach.specs.work.Grown.{Ordered}
 use Rattle.reach.proofs.Grown.{read-node, read-parent}
 use Rattle.spines.specs.Spine.{Leaf}
 use Rattle.spines.specs.work.Parents.{Child}
@@ -15,17 +15,19 @@ use Rattle.spines.proofs.sweeps.leaves_of.Statement.{statement}
 use Rattle.spines.proofs.sweeps.leaves_of.Tie as tie
 
 abbrev Inv-loop : tie.InvT-loop
-Inv-loop parent order place n leaves₀ i₀ leaves i =
-    Given (Leaf (Child n (at parent)) n) n parent place i leaves × Grown n parent order place × (0 < i) × (i ≤ n)
+Inv-loop parent order n leaves₀ i₀ leaves i =
+    (k : Ordered n parent order) × Given (Leaf (Child n (at parent)) n) n parent (k .place) i leaves × (0 < i) × (i ≤ n)
 
 abbrev μ-loop : tie.MeasureT-loop
-μ-loop parent order place n leaves₀ i₀ leaves i = i
+μ-loop parent order n leaves₀ i₀ leaves i = i
 
 fill-requires : tie.Need-fill-requires Inv-loop μ-loop
 fill-requires c κs = search needs
 
 loop-holds : tie.Need-loop-holds Inv-loop μ-loop
-loop-holds c = let g = c .before .before .pre in (leaves-none g _ (c .fill .ensures), g, g .some .0, omega arith)
+loop-holds c =
+    let k = c .before .before .pre in
+    (k, leaves-none (k .holds) _ (c .fill .ensures), k .holds .some .0, omega arith)
 
 sub-i : tie.Need-sub-i Inv-loop μ-loop
 sub-i c = omega arith
@@ -43,13 +45,13 @@ node-in : (c : tie.After-wide Inv-loop μ-loop) → c .wide .result < 4096
 node-in c =
     let loop-i = c .before .before .before .loop .i in
     let h = c .before .before .before .loop .inv in
-    read-node (h .1) (loop-i - 1) _ (omega arith) (c .wide .ensures .0)
+    read-node (h .0 .holds) (loop-i - 1) _ (omega arith) (c .wide .ensures .0)
 
 parent-in : (c : tie.After-wide2 Inv-loop μ-loop) → c .wide2 .result < 4096
 parent-in c =
     let loop-i = c .before .before .before .before .before .loop .i in
     let h = c .before .before .before .before .before .loop .inv in
-    read-parent (h .1) (loop-i - 1) _ _ (omega arith) (omega arith) (c .before .before .wide .ensures .0)
+    read-parent (h .0 .holds) (loop-i - 1) _ _ (omega arith) (omega arith) (c .before .before .wide .ensures .0)
     (c .wide2 .ensures .0)
 
 mul-wide-2 : tie.Need-mul-wide-2 Inv-loop μ-loop
@@ -84,8 +86,8 @@ add-y c =
     let h = c .before .before .before .before .before .before .before .before .loop .inv in
     omega (
       arith,
-      h .1 .some .1,
-      leaves-fit (h .1) _ _ _ _ loop-test-taken (h .3) (wide-ensures .0) (wide2-ensures .0) _ (h .0)
+      h .0 .holds .some .1,
+      leaves-fit (h .0 .holds) _ _ _ _ loop-test-taken (h .3) (wide-ensures .0) (wide2-ensures .0) _ (h .1)
           (c .before .least .ensures),
     )
 
@@ -110,9 +112,9 @@ loop-again c =
     let wide-ensures = c .before .before .before .before .before .wide .ensures in
     let loop-test-taken = c .before .before .before .before .before .before .before .loop-test .taken in
     let h = c .before .before .before .before .before .before .before .before .loop .inv in (
-      leaves-next (h .1) _ _ _ _ loop-test-taken (h .3) (wide-ensures .0) (wide2-ensures .0) _ (h .0)
+      h .0,
+      leaves-next (h .0 .holds) _ _ _ _ loop-test-taken (h .3) (wide-ensures .0) (wide2-ensures .0) _ (h .1)
           (c .before .least .ensures),
-      h .1,
       omega arith,
       omega arith,
     )
@@ -129,7 +131,7 @@ element-write-leaves-3 c = omega arith
 returns : tie.Need-returns Inv-loop μ-loop
 returns c =
     let h = c .before .before .before .loop .inv in
-    leaves-all (h .1) _ _ _ (omega arith) (h .2) (h .0) (c .least2 .ensures)
+    leaves-all (h .0 .holds) _ _ _ (omega arith) (h .2) (h .1) (c .least2 .ensures)
 
 pub leaves-of-spec : {M : Type 1} → statement M
 leaves-of-spec =

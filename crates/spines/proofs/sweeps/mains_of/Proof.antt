@@ -1,28 +1,27 @@
--- `mains_of` meets its contract. Each node has the best of its children below c. The parent of node c is a node
--- (`parent-in`).
+-- `mains_of` meets its contract. Each node has the best of its children below c; the best of all, by the leaves below
+-- it, is the main child. The parent of node c is a node (`parent-in`).
 use Prim.Native.Nat.{_-_, _≤_, _<_}
 use native.Mathlib.Omega.{arith}
 use borrow.Author.Needs.{needs}
-use Rattle.reach.specs.work.Grown.{Grown}
-use Rattle.spines.specs.work.Sweeps.{BestChildren}
-use Rattle.spines.proofs.MainSweep.{bests-none, bests-more, bests-all, best-small, read-child}
+use Rattle.reach.specs.work.Grown.{Ordered}
+use Rattle.spines.proofs.MainSweep.{BestChildren, bests-none, bests-more, mains-all, best-small, read-child}
 use Rattle.spines.proofs.sweeps.mains_of.Statement.{statement}
 use Rattle.spines.proofs.sweeps.mains_of.Tie as tie
 
 abbrev Inv-loop : tie.InvT-loop
-Inv-loop parent order place leaves n main₀ c₀ main c =
-    BestChildren n parent leaves c main × Grown n parent order place × (0 < c) × ((c ≤ n) × (n ≤ 4096))
+Inv-loop parent order leaves n main₀ c₀ main c =
+    BestChildren n parent leaves c main × Ordered n parent order × (0 < c) × ((c ≤ n) × (n ≤ 4096))
 
 abbrev μ-loop : tie.MeasureT-loop
-μ-loop parent order place leaves n main₀ c₀ main c = n - c
+μ-loop parent order leaves n main₀ c₀ main c = n - c
 
 fill-requires : tie.Need-fill-requires Inv-loop μ-loop
 fill-requires c κs = search needs
 
 loop-holds : tie.Need-loop-holds Inv-loop μ-loop
 loop-holds c =
-    let g = c .before .before .pre in
-    (bests-none _ _ _ _ (g .some .1) (c .fill .ensures), g, omega arith, (g .some .0, g .some .1))
+    let k = c .before .before .pre .0 in
+    (bests-none _ _ _ _ (k .holds .some .1) (c .fill .ensures), k, omega arith, k .holds .some)
 
 mul-wide : tie.Need-mul-wide Inv-loop μ-loop
 mul-wide c = omega arith
@@ -37,7 +36,7 @@ parent-in : (c : tie.After-wide Inv-loop μ-loop)
     → c .wide .result < c .before .before .before .before .before .before .args .n
 parent-in c =
     let h = c .before .before .before .loop .inv in
-    read-child (h .1) _ _ (h .2) (c .before .before .loop-test .taken) (c .wide .ensures .0)
+    read-child (h .1 .holds) _ _ (h .2) (c .before .before .loop-test .taken) (c .wide .ensures .0)
 
 parent-small : (c : tie.After-wide Inv-loop μ-loop) → c .wide .result < 4096
 parent-small c = omega (arith, c .before .before .before .loop .inv .3 .1, parent-in c)
@@ -91,7 +90,9 @@ loop-again c =
     )
 
 returns : tie.Need-returns Inv-loop μ-loop
-returns c = let h = c .before .loop .inv in bests-all _ _ _ _ _ (omega arith) (h .0)
+returns c =
+    let leaves-all = c .before .before .before .before .pre .1 in
+    mains-all leaves-all (c .before .loop .inv .0) (omega arith)
 
 pub mains-of-spec : {M : Type 1} → statement M
 mains-of-spec =

@@ -6,16 +6,19 @@ use mathlib.Core.List.{List, [], _∷_, _++_, append-assoc, append-nil}
 use Prim.Native.Nat.{ℕ, _+_, _≤_, _<_}
 use native.Mathlib.Omega.{arith}
 use lib.ListN.{length}
+use lib.IntN.{ℤ, _+ℤ_, +ℤ-assoc, +ℤ-comm, +ℤ-idr}
 use Rattle.arrays.specs.Members.{In, at, past}
 use Rattle.net.specs.Graph.{stop}
 use Rattle.net.specs.Path.{Sum, Path}
+use Rattle.net.specs.Value.{Total}
 use Rattle.net.specs.work.Rooted.{Above, self, up, Rooted}
 use Rattle.arrays.proofs.Members.{not-nil, in-one, in-left, in-right, in-either}
 use Rattle.net.proofs.Above.{place-rises}
 use Rattle.net.proofs.Rooted.{path-up, path-down, sum-snoc}
+use Rattle.net.proofs.Values.{total-snoc}
 use Rattle.net.proofs.Above.{above-trans}
-use Rattle.changes.specs.work.Climbs as work
-use Rattle.changes.specs.work.Climbs.{Rise}
+use Rattle.net.specs.work.Rise as work
+use Rattle.net.specs.work.Rise.{Rise}
 
 module _ {par row : ℕ → ℕ} {t : ℕ} where
   pub rise-above : {x : ℕ} {rs : List ℕ} → Rise par row t x rs → Above par t x
@@ -59,15 +62,17 @@ module _ {u v : ℕ → ℕ} {k n : ℕ} {par row place : ℕ → ℕ} (R : Root
   rise-path {x = x} b h = climb-on {done = []} b self ([], stop, (not-nil, tt)) h
 
   -- a path whose rows are those of two climbs
-  pub record Whole (x y : ℕ) (ups downs : List ℕ) : Type 0 where
+  pub record TwoRises (x y : ℕ) (ups downs : List ℕ) : Type 0 where
     pub rows : List ℕ
     pub path : Path u v k x rows y
     pub only : (r : ℕ) → In r rows → In r ups ⊎ In r downs
     pub all : (r : ℕ) → In r ups ⊎ In r downs → In r rows
     pub sum : (f : ℕ → ℕ) → Sum f rows ≡ Sum f ups + Sum f downs
+    pub total : (g : ℕ → ℤ) → Total g rows ≡ Total g ups +ℤ Total g downs
 
   pub two-rises : {t x y : ℕ} {ups downs : List ℕ} → x < n → y < n → Rise par row t x ups → Rise par row t y downs
-      → ((z : ℕ) → Above par t z → Above par z y → z ≢ t → ¬ Above par z x) → Whole x y ups downs
+      → ((z : ℕ) → Above par t z → Above par z y → z ≢ t → ¬ Above par z x) → TwoRises x y ups downs
+  unfolding Total
   two-rises {ups = ups} bx by h work.here n =
       record {
         rows = ups;
@@ -75,6 +80,7 @@ module _ {u v : ℕ → ℕ} {k n : ℕ} {par row place : ℕ → ℕ} (R : Root
         only = λ r i. inl i;
         all = λ r i. ⊎-elim (λ j. j) (λ j. absurd (not-nil j)) i;
         sum = λ f. omega arith;
+        total = λ g. sym (+ℤ-idr (Total g ups));
       }
   two-rises {t} {x} {y} {ups} bx by h (work.up {y = p} {rs = downs} z e j) n =
       down (two-rises bx (rw e at (R .par-fits y by z)) h j (λ w a b m. n w a (up z e b) m))
@@ -94,7 +100,7 @@ module _ {u v : ℕ → ℕ} {k n : ℕ} {par row place : ℕ → ℕ} (R : Root
       put : {rs : List ℕ} → Path u v k x rs p → Path u v k x rs (par y)
       put w = rw e w
 
-      down : Whole x p ups downs → Whole x y ups (row y ∷ downs)
+      down : TwoRises x p ups downs → TwoRises x y ups (row y ∷ downs)
       down w = record {
         rows = w .rows ++ (row y ∷ []);
         path = path-down u v R y by z out (put (w .path));
@@ -102,6 +108,9 @@ module _ {u v : ℕ → ℕ} {k n : ℕ} {par row place : ℕ → ℕ} (R : Root
             (in-either (w .rows) i);
         all = λ r i. ⊎-elim (λ a. in-left (row y ∷ []) (w .all r (inl a))) (λ a. first r a) i;
         sum = λ f. sum-snoc f (w .rows) (row y) ∙ omega (arith, w .sum f);
+        total = λ g. total-snoc g (w .rows) (row y) ∙ ap (λ z. z +ℤ g (row y)) (w .total g)
+            ∙ +ℤ-assoc (Total g ups) (Total g downs) (g (row y))
+            ∙ ap (λ z. Total g ups +ℤ z) (+ℤ-comm (Total g downs) (g (row y)));
       }
         where
           first : (r : ℕ) → In r (row y ∷ downs) → In r (w .rows ++ (row y ∷ []))

@@ -1,8 +1,8 @@
--- `marks::along::one_free` meets its contract: by whether the mark is 0.
-use Rattle.changes.proofs.Held.{one-of, none-of}
+-- `one_free` meets its contract: by whether the mark is 0.
+use Rattle.marks.proofs.Measuring.{one-of, none-of}
 use mathlib.Core.Path.{sym}
-use Rattle.changes.proofs.along.one_free.Statement.{statement}
-use Rattle.changes.proofs.along.one_free.Tie as tie
+use Rattle.marks.proofs.one_free.Statement.{statement}
+use Rattle.marks.proofs.one_free.Tie as tie
 
 returns : tie.Need-returns
 returns c = sym (one-of _ (c .if1 .taken))
