@@ -10,11 +10,11 @@ use lib.ListN.{length, set, length-set}
 use lib.Seq.{getD-set-same, getD-set-other}
 use Rattle.arrays.specs.At.{at}
 use Rattle.arrays.specs.work.Filled.{Filled}
-use Rattle.reach.specs.work.Grown.{Grown}
+use Rattle.reach.specs.work.Grown.{Ordered}
 use Rattle.net.proofs.Counts.{count-unique}
 use Rattle.spines.specs.Spine.{Main}
 use Rattle.spines.specs.work.Parents.{Child}
-use Rattle.spines.specs.work.Sweeps.{LeavesAll, MainsAll, MainTaken}
+use Rattle.spines.specs.work.Sweeps.{LeavesAll, Parented, MainsAll, MainTaken}
 
 -- q is the best of p's children below c, or 4096 where there is none
 pub record BestChild (n : ℕ) (par leaves : ℕ → ℕ) (c p q : ℕ) : Type 0 where
@@ -151,6 +151,8 @@ best-small {main} p b k l s = pick (ℕ-discrete (at main p) 4096)
     pick (yes e) = omega arith
     pick (no m) = omega (arith, s .each p l .below m)
 
-pub read-child : {n : ℕ} {parent order place : List ℕ} → Grown n parent order place → (c p : ℕ) → 0 < c → c < n
-    → p ≡ at parent c → p < n
-read-child g c p z b e = rw e (g .fits c b (omega arith))
+pub ordered-parented : {n : ℕ} {parent order : List ℕ} → Ordered n parent order → Parented n parent
+ordered-parented k = record { some = k .holds .some; fits = k .holds .fits }
+
+pub read-child : {n : ℕ} {parent : List ℕ} → Parented n parent → (c p : ℕ) → 0 < c → c < n → p ≡ at parent c → p < n
+read-child k c p z b e = rw e (k .fits c b (omega arith))

@@ -3,7 +3,7 @@
 ghost use Prim.Native.Nat.{_≤_, _<_};
 ghost use Rattle.reach.specs.work.Grown.{Ordered};
 ghost use Rattle.spines.specs.work.Parents.{HeadsAll};
-ghost use Rattle.spines.specs.work.Sweeps.{LeavesAll, Least, MainsAll, MainTaken, Follows};
+ghost use Rattle.spines.specs.work.Sweeps.{LeavesAll, Least, Parented, MainsAll, MainTaken, Follows};
 
 // A node with no leaves strictly below it is a leaf and counts itself.
 fn least(x: u16) -> u16
@@ -55,14 +55,8 @@ fn better(leaves: &[u16; 4096], q: usize, c: usize) -> usize
 }
 
 // The main child of each node, 4096 for a leaf: over the node numbers, so that the lowest among equals comes first.
-pub(crate) fn mains_of(
-    parent: &[u16; 4096],
-    order: &[u16; 4096],
-    leaves: &[u16; 4096],
-    n: usize,
-    main: &mut [u16; 4096],
-)
-    requires { ⌜ Ordered n (now parent) (now order) × LeavesAll n (now parent) (now leaves) ⌝ }
+pub(crate) fn mains_of(parent: &[u16; 4096], leaves: &[u16; 4096], n: usize, main: &mut [u16; 4096])
+    requires { ⌜ Parented n (now parent) × LeavesAll n (now parent) (now leaves) ⌝ }
     ensures { λ _. ⌜ MainsAll n (now (parent .entry)) (now (main .exit)) ⌝ }
 {
     arrays::fill(main, 4096);

@@ -19,6 +19,11 @@ pub record Least (x w : ℕ) : Type 0 where
   pub none : x ≡ 0 → w ≡ 1
   pub some : x ≢ 0 → w ≡ x
 
+-- each of n nodes but node 0 has one of them for a parent
+pub record Parented (n : ℕ) (parent : List ℕ) : Type 0 where
+  pub some : (0 < n) × (n ≤ 4096)
+  pub fits : (x : ℕ) → x < n → x ≢ 0 → at parent x < n
+
 -- q is the main child of p, or 4096 where p has none
 pub record MainOrNone (n : ℕ) (par : ℕ → ℕ) (p q : ℕ) : Type 0 where
   pub is : q ≢ 4096 → Main (Child n par) n p q

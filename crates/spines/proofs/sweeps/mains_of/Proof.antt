@@ -3,17 +3,17 @@
 use Prim.Native.Nat.{_-_, _≤_, _<_}
 use native.Mathlib.Omega.{arith}
 use borrow.Author.Needs.{needs}
-use Rattle.reach.specs.work.Grown.{Ordered}
+use Rattle.spines.specs.work.Sweeps.{Parented}
 use Rattle.spines.proofs.MainSweep.{BestChildren, bests-none, bests-more, mains-all, best-small, read-child}
 use Rattle.spines.proofs.sweeps.mains_of.Statement.{statement}
 use Rattle.spines.proofs.sweeps.mains_of.Tie as tie
 
 abbrev Inv-loop : tie.InvT-loop
-Inv-loop parent order leaves n main₀ c₀ main c =
-    BestChildren n parent leaves c main × Ordered n parent order × (0 < c) × ((c ≤ n) × (n ≤ 4096))
+Inv-loop parent leaves n main₀ c₀ main c =
+    BestChildren n parent leaves c main × Parented n parent × (0 < c) × (c ≤ n)
 
 abbrev μ-loop : tie.MeasureT-loop
-μ-loop parent order leaves n main₀ c₀ main c = n - c
+μ-loop parent leaves n main₀ c₀ main c = n - c
 
 fill-requires : tie.Need-fill-requires Inv-loop μ-loop
 fill-requires c κs = search needs
@@ -21,7 +21,7 @@ fill-requires c κs = search needs
 loop-holds : tie.Need-loop-holds Inv-loop μ-loop
 loop-holds c =
     let k = c .before .before .pre .0 in
-    (bests-none _ _ _ _ (k .holds .some .1) (c .fill .ensures), k, omega arith, k .holds .some)
+    (bests-none _ _ _ _ (k .some .1) (c .fill .ensures), k, omega arith, k .some .0)
 
 mul-wide : tie.Need-mul-wide Inv-loop μ-loop
 mul-wide c = omega arith
@@ -36,10 +36,10 @@ parent-in : (c : tie.After-wide Inv-loop μ-loop)
     → c .wide .result < c .before .before .before .before .before .before .args .n
 parent-in c =
     let h = c .before .before .before .loop .inv in
-    read-child (h .1 .holds) _ _ (h .2) (c .before .before .loop-test .taken) (c .wide .ensures .0)
+    read-child (h .1) _ _ (h .2) (c .before .before .loop-test .taken) (c .wide .ensures .0)
 
 parent-small : (c : tie.After-wide Inv-loop μ-loop) → c .wide .result < 4096
-parent-small c = omega (arith, c .before .before .before .loop .inv .3 .1, parent-in c)
+parent-small c = omega (arith, c .before .before .before .loop .inv .1 .some .1, parent-in c)
 
 mul-wide-2 : tie.Need-mul-wide-2 Inv-loop μ-loop
 mul-wide-2 c = omega (arith, parent-small c)
@@ -56,9 +56,9 @@ better-requires c κs =
       omega (
         arith,
         c .wide2 .ensures .0,
-        best-small _ (h .3 .1) (h .3 .0) (parent-in (c .before .before)) (h .0),
+        best-small _ (h .1 .some .1) (h .3) (parent-in (c .before .before)) (h .0),
       ),
-      omega (arith, h .3 .1),
+      omega (arith, h .1 .some .1),
     )
 
 cast-main : tie.Need-cast-main Inv-loop μ-loop
@@ -81,12 +81,12 @@ loop-again c =
     let loop-test-taken = c .before .before .before .before .before .loop-test .taken in
     let h = c .before .before .before .before .before .before .loop .inv in
     let e = c .before .before .before .wide .ensures .0 in (
-      bests-more _ _ _ _ _ _ _ (h .3 .1) loop-test-taken (omega arith)
+      bests-more _ _ _ _ _ _ _ (h .1 .some .1) loop-test-taken (omega arith)
           (rw e at (parent-in (c .before .before .before))) e (h .0)
           (rw (c .before .wide2 .ensures .0) at (c .better .ensures)),
       h .1,
       omega arith,
-      (omega arith, h .3 .1),
+      omega arith,
     )
 
 returns : tie.Need-returns Inv-loop μ-loop
