@@ -1,6 +1,6 @@
-/* Measures the library beside the plain scan: one run, the same tables, marks and buffers, lent to both. Writes the figures to standard output, the
-   plot of heaviest, with the second argument below it, to the file that the first names, and how far it is to standard error. Ends with status 1 where the
-   two give different answers. */
+/* Measures the library beside the plain scan: one run, the same tables, marks and buffers, lent to both. Writes the
+   figures to standard output, the plot of heaviest, with the second argument below it, to the file that the first
+   names, and how far it is to standard error. Ends with status 1 where the two give different answers. */
 #include "hourbench.h"
 #include "nets.h"
 #include "scan.h"
@@ -11,17 +11,21 @@
 #include <time.h>
 
 enum { SIZES = 3, PAGE = 65536 };
-enum op { HEAVIEST, HEAVIEST_EXACT, LISTING, LISTING_EXACT, PAIR, CLAIM, RING, OPS };
+/* The operations that are measured, and from OPS on those that are only compared; 2: of the table of version 2. */
+enum op { HEAVIEST, HEAVIEST_EXACT, LISTING, LISTING_EXACT, PAIR, PAIR_2, CLAIM, RING, OPS,
+          ACCEPT_2 = OPS, HEAVIEST_2, LISTING_2, ALL };
 static const size_t sizes[SIZES] = {256, 1024, 4096};
-static const char *op_names[OPS] = {"Heaviest", "Heaviest exact", "Listing", "Listing exact", "Pair", "Claim and abort",
-                                    "Refusal 11"};
+static const char *op_names[ALL] = {"Heaviest", "Heaviest exact", "Listing", "Listing exact", "Pair", "Pair, version 2",
+                                    "Claim and abort", "Refusal 11", "Acceptance, version 2",
+                                    "Heaviest, version 2", "Listing, version 2"};
 
-static uint8_t table[12 * 4096], ringed[12 * 4096], page_scan[PAGE], page_library[PAGE];
+static uint8_t table[12 * 4096], table_2[12 * 4096], ringed[12 * 4096], page_scan[PAGE], page_library[PAGE];
 static uint16_t marks_scan[4096], marks_library[4096];
 static size_t n, table_len;
 static double took[SHAPES][SIZES][OPS][2]; /* seconds a call: scan, library */
-static double equal_took[SHAPES][OPS];     /* the library's, 4,096 nodes, all lengths equal; heaviest and listing alone */
-static int64_t best[8], best_exact[8];
+static double equal_took[SHAPES][OPS];     /* the library's, 4,096 nodes, all lengths equal; heaviest and
+                                              listing alone */
+static int64_t best[8], best_exact[8], best_2[8];
 static int differ;
 
 static uint64_t seed;
@@ -34,13 +38,22 @@ static void call(int op, int library, uint16_t a, uint16_t b, int64_t answer[8])
     switch (op) {
     case HEAVIEST: (library ? hb_heaviest : scan_heaviest)(table, table_len, marks, m, answer); break;
     case HEAVIEST_EXACT: (library ? hb_heaviest_exact : scan_heaviest_exact)(table, table_len, marks, m, answer); break;
-    case LISTING: (library ? hb_listing : scan_listing)(table, table_len, marks, m, best[6] - 50, 0, 0, page, PAGE, answer); break;
+    case LISTING:
+        (library ? hb_listing : scan_listing)(table, table_len, marks, m, best[6] - 50, 0, 0, page, PAGE, answer);
+        break;
     case LISTING_EXACT:
-        (library ? hb_listing_exact : scan_listing_exact)(table, table_len, marks, m, best_exact[6] - 50, 0, 0, page, PAGE, answer);
+        (library ? hb_listing_exact : scan_listing_exact)(table, table_len, marks, m, best_exact[6] - 50, 0, 0,
+                                                          page, PAGE, answer);
         break;
     case PAIR:
-        (library ? hb_pair : scan_pair)(table, table_len, marks, m, a, b, answer);
+    case PAIR_2:
+        (library ? hb_pair : scan_pair)(op == PAIR ? table : table_2, table_len, marks, m, a, b, answer);
         answer[5] = 0; /* hops, which a scan does not have */
+        break;
+    case ACCEPT_2: (library ? hb_accept : scan_accept)(table_2, table_len, answer); break;
+    case HEAVIEST_2: (library ? hb_heaviest : scan_heaviest)(table_2, table_len, marks, m, answer); break;
+    case LISTING_2:
+        (library ? hb_listing : scan_listing)(table_2, table_len, marks, m, best_2[6] - 50, 0, 0, page, PAGE, answer);
         break;
     case RING: (library ? hb_accept : scan_accept)(ringed, table_len, answer); break;
     default:
@@ -55,8 +68,8 @@ static double now(void) {
     return (double)t.tv_sec + 1e-9 * (double)t.tv_nsec;
 }
 
-/* The second least processor time of a call, over calls for a fifth of a second or three calls, whichever is more: now and then a shared host's clock
-   stands still for a call, so the least alone would not do. */
+/* The second least processor time of a call, over calls for a fifth of a second or three calls, whichever is more: now
+   and then a shared host's clock stands still for a call, so the least alone would not do. */
 static double measure(int op, int library, int64_t answer[8]) {
     double least = 1e9, second = 1e9, begun = now();
     seed = 77;
@@ -74,12 +87,13 @@ static double measure(int op, int library, int64_t answer[8]) {
 /* Equal answers, page and marks; for pair on fifty pairs. */
 static void compare(int op, const char *shape) {
     seed = 78;
-    for (int i = 0; i < (op == PAIR ? 50 : 1); i++) {
+    for (int i = 0; i < (op == PAIR || op == PAIR_2 ? 50 : 1); i++) {
         uint16_t a = (uint16_t)(next_number(&seed) % n), b = (uint16_t)((a + 1 + next_number(&seed) % (n - 1)) % n);
         int64_t x[8], y[8];
         call(op, 0, a, b, x);
         call(op, 1, a, b, y);
-        if (memcmp(x, y, sizeof x) || memcmp(page_scan, page_library, PAGE) || memcmp(marks_scan, marks_library, sizeof marks_scan)) {
+        if (memcmp(x, y, sizeof x) || memcmp(page_scan, page_library, PAGE) ||
+            memcmp(marks_scan, marks_library, sizeof marks_scan)) {
             printf("DIFFERENT: %s of %s with %zu nodes\n", op_names[op], shape, n);
             differ = 1;
         }
@@ -90,21 +104,24 @@ static void mark_every_third(uint16_t mark) {
     for (size_t r = 0; r + 1 < n; r += 3) marks_scan[r] = marks_library[r] = mark;
 }
 
-/* The next net of a shape, all branches free; its heaviest runs are what listings and claims go by. Beside it the same with a ring. */
+/* The next net of a shape, all branches free; its heaviest runs are what listings and claims go by. Beside it the same
+   net weighed by kind, and the same with a ring. */
 static void take_net(int shape, size_t nodes, enum lengths lengths) {
     n = nodes;
     table_len = make_net(shape, n, lengths, table);
+    memcpy(table_2, table, table_len), weigh_by_kind(n, table_2);
     memcpy(ringed, table, table_len), close_ring(n, ringed);
     memset(marks_scan, 0, sizeof marks_scan), memset(marks_library, 0, sizeof marks_library);
     memset(page_scan, 0, PAGE), memset(page_library, 0, PAGE);
     scan_heaviest(table, table_len, marks_scan, n - 1, best);
     scan_heaviest_exact(table, table_len, marks_scan, n - 1, best_exact);
+    scan_heaviest(table_2, table_len, marks_scan, n - 1, best_2);
 }
 
 /* The same under marks, so that what a marked row weighs is compared too. */
 static void compare_marked(const char *shape) {
     mark_every_third(9);
-    for (int op = 0; op < OPS; op++) compare(op, shape);
+    for (int op = 0; op < ALL; op++) compare(op, shape);
     mark_every_third(0);
 }
 
@@ -128,14 +145,20 @@ static void plot(const char *path, const char *machine) {
                 if (t > most) most = t;
             }
     low_y = floor(log10(least)), high_y = ceil(log10(most));
-    fprintf(f, "<svg xmlns=\"http://www.w3.org/2000/svg\" viewBox=\"0 0 760 480\" font-family=\"sans-serif\" font-size=\"13\">\n");
-    fprintf(f, "<rect width=\"760\" height=\"480\" fill=\"white\"/>\n<text x=\"90\" y=\"28\" font-size=\"16\">Heaviest: time of a call against nodes</text>\n");
+    fprintf(f, "<svg xmlns=\"http://www.w3.org/2000/svg\" viewBox=\"0 0 760 480\" font-family=\"sans-serif\" "
+               "font-size=\"13\">\n");
+    fprintf(f, "<rect width=\"760\" height=\"480\" fill=\"white\"/>\n"
+               "<text x=\"90\" y=\"28\" font-size=\"16\">Heaviest: time of a call against nodes</text>\n");
     for (int d = (int)low_y; d <= (int)high_y; d++) {
         double y = y_of(pow(10, d)), ms = pow(10, d + 3);
-        fprintf(f, "<line x1=\"90\" x2=\"590\" y1=\"%.1f\" y2=\"%.1f\" stroke=\"#ddd\"/><text x=\"82\" y=\"%.1f\" text-anchor=\"end\">%g ms</text>\n", y, y, y + 4, ms);
+        fprintf(f, "<line x1=\"90\" x2=\"590\" y1=\"%.1f\" y2=\"%.1f\" stroke=\"#ddd\"/>"
+                   "<text x=\"82\" y=\"%.1f\" text-anchor=\"end\">%g ms</text>\n",
+                y, y, y + 4, ms);
     }
     for (int z = 0; z < SIZES; z++)
-        fprintf(f, "<line x1=\"%.0f\" x2=\"%.0f\" y1=\"50\" y2=\"420\" stroke=\"#ddd\"/><text x=\"%.0f\" y=\"440\" text-anchor=\"middle\">%zu nodes</text>\n", X(z), X(z), X(z), sizes[z]);
+        fprintf(f, "<line x1=\"%.0f\" x2=\"%.0f\" y1=\"50\" y2=\"420\" stroke=\"#ddd\"/>"
+                   "<text x=\"%.0f\" y=\"440\" text-anchor=\"middle\">%zu nodes</text>\n",
+                X(z), X(z), X(z), sizes[z]);
     for (int w = 0; w < 2; w++) {
         int order[SHAPES] = {0, 1, 2, 3, 4};
         for (int i = 0; i < SHAPES; i++)
@@ -151,15 +174,20 @@ static void plot(const char *path, const char *machine) {
             for (int z = 0; z < SIZES; z++) fprintf(f, "%.1f,%.1f ", X(z), y_of(took[s][z][0][w]));
             fprintf(f, "\"/>\n");
             for (int z = 0; z < SIZES; z++)
-                fprintf(f, "<circle cx=\"%.1f\" cy=\"%.1f\" r=\"3\" fill=\"%s\"/>\n", X(z), y_of(took[s][z][0][w]), colour[w]);
+                fprintf(f, "<circle cx=\"%.1f\" cy=\"%.1f\" r=\"3\" fill=\"%s\"/>\n",
+                        X(z), y_of(took[s][z][0][w]), colour[w]);
             double y = y_of(took[s][2][0][w]) + 4;
             if (i > 0 && y < at + 15) y = at + 15;
             at = y;
-            if (i == 0) fprintf(f, "<text x=\"602\" y=\"%.1f\" fill=\"%s\" font-weight=\"bold\">%s</text>\n", y - 18, colour[w], who[w]);
+            if (i == 0)
+                fprintf(f, "<text x=\"602\" y=\"%.1f\" fill=\"%s\" font-weight=\"bold\">%s</text>\n",
+                        y - 18, colour[w], who[w]);
             fprintf(f, "<text x=\"602\" y=\"%.1f\" fill=\"%s\">%s</text>\n", y, colour[w], shape_names[s]);
         }
     }
-    fprintf(f, "<text x=\"90\" y=\"466\" fill=\"#555\">Both axes logarithmic. Drawn by tools/bench on %s.</text>\n</svg>\n", machine);
+    fprintf(f, "<text x=\"90\" y=\"466\" fill=\"#555\">Both axes logarithmic. Drawn by tools/bench on %s.</text>\n"
+               "</svg>\n",
+            machine);
     if (fclose(f)) {
         perror(path);
         exit(2);
@@ -178,12 +206,16 @@ static void measure_equal(void) {
     }
 }
 
-static void print_mode(double most, double exact) { printf(" %.3g / %.3g (%.2f) |", 1e3 * most, 1e3 * exact, exact / most); }
+static void print_mode(double most, double exact) {
+    printf(" %.3g / %.3g (%.2f) |", 1e3 * most, 1e3 * exact, exact / most);
+}
 
 static void print_modes(void) {
     printf("#### Exactly the bound beside at most the bound\n\n");
-    printf("The library at 4,096 nodes: milliseconds within the bound / of exactly its length, and in brackets the second by the first.\n\n");
-    printf("| shape | heaviest | heaviest, all lengths equal | listing | listing, all lengths equal |\n|---|---|---|---|---|\n");
+    printf("The library at 4,096 nodes: milliseconds within the bound / of exactly its length, and in brackets "
+           "the second by the first.\n\n");
+    printf("| shape | heaviest | heaviest, all lengths equal | listing | listing, all lengths equal |\n"
+           "|---|---|---|---|---|\n");
     for (int s = 0; s < SHAPES; s++) {
         printf("| %s |", shape_names[s]);
         for (int op = HEAVIEST; op <= LISTING; op += 2) {
@@ -205,23 +237,25 @@ int main(int argc, char **argv) {
             take_net(s, sizes[z], VARIED);
             fprintf(stderr, "bench: %d of %d: %s, %zu nodes\n", s * SIZES + z + 1, SHAPES * SIZES, shape_names[s], n);
             compare_marked(shape_names[s]);
-            for (int op = 0; op < OPS; op++) {
+            for (int op = 0; op < ALL; op++) {
                 int64_t answer[8];
                 compare(op, shape_names[s]);
-                for (int w = 0; w < 2; w++) took[s][z][op][w] = measure(op, w, answer);
+                for (int w = 0; w < 2 && op < OPS; w++) took[s][z][op][w] = measure(op, w, answer);
             }
         }
     measure_equal();
     for (int op = 0; op < OPS; op++) {
         printf("#### %s\n\n", op_names[op]);
-        printf("| shape | 256 nodes | 1,024 nodes | 4,096 nodes | scan grows | library grows |\n|---|---|---|---|---|---|\n");
+        printf("| shape | 256 nodes | 1,024 nodes | 4,096 nodes | scan grows | library grows |\n"
+               "|---|---|---|---|---|---|\n");
         for (int s = 0; s < SHAPES; s++) {
             printf("| %s |", shape_names[s]);
             for (int z = 0; z < SIZES; z++) {
                 double *t = took[s][z][op];
                 printf(" %.3g / %.3g (%.3g) |", 1e3 * t[0], 1e3 * t[1], t[0] / t[1]);
             }
-            printf(" %.1f-fold | %.1f-fold |\n", took[s][2][op][0] / took[s][1][op][0], took[s][2][op][1] / took[s][1][op][1]);
+            printf(" %.1f-fold | %.1f-fold |\n", took[s][2][op][0] / took[s][1][op][0],
+                   took[s][2][op][1] / took[s][1][op][1]);
         }
         printf("\n");
     }

@@ -64,6 +64,15 @@ size_t make_net(int shape, size_t n, enum lengths lengths, uint8_t table[12 * 40
     return 12 * n;
 }
 
+void weigh_by_kind(size_t n, uint8_t table[12 * 4096]) {
+    uint64_t seed = n;
+    put(table + 3, 2, 2);
+    for (size_t r = 0; r + 1 < n; r++) {
+        uint64_t kind = next_number(&seed) % 96 % 64, most = kind < 32 ? 100 / (kind + 1) : 2;
+        put(table + 20 + 12 * r, kind, 2), put(table + 22 + 12 * r, next_number(&seed) % (most + 1), 2);
+    }
+}
+
 void close_ring(size_t n, uint8_t table[12 * 4096]) {
     uint16_t steps[4096] = {0}; /* one more than the branches from the first row's first node; 0: not reached */
     size_t last = n - 2, start = table[12] + 256u * table[13], far = start;

@@ -1,5 +1,5 @@
-/* The plain scan (scan.h). Refusals, rows, neighbours, then a walk from a node that gives every length and weight: for one node, or for each in turn; the
-   rows of a ring by a walk too. Its hops are left 0: a scan has no spines. */
+/* The plain scan (scan.h). Refusals, rows, neighbours, then a walk from a node that gives every length and weight: for
+   one node, or for each in turn; the rows of a ring by a walk too. Its hops are left 0: a scan has no spines. */
 #include "scan.h"
 #include <string.h>
 
@@ -79,11 +79,20 @@ static uint8_t refuse_ring(net *t, size_t r, int64_t answer[8]) {
     return 11;
 }
 
-/* 1 to 12. */
+/* What a kind below 64 scores. */
+static int32_t score(uint32_t kind) {
+    static const int32_t scores[24] = {1,  2,  2,  3,  3,  4,  4,  5,  6,  6,  8,  8,
+                                       10, 10, 12, 12, 14, 14, 16, 16, 18, 20, 22, 24};
+    if (kind < 24) return scores[kind];
+    return kind < 32 ? 0 : -50; /* filler; blocked ground */
+}
+
+/* 1 to 12, and 22 and 23 where 10 stands for version 1. */
 static uint8_t open_net(const uint8_t *s, size_t len, net *t, int64_t answer[8]) {
     if (len < 12) return refuse(answer, 1, 0);
     if (memcmp(s, "RTN", 3) != 0) return refuse(answer, 2, 0);
-    if (u16(s + 3) != 1) return refuse(answer, 3, 0);
+    uint32_t version = u16(s + 3);
+    if (version != 1 && version != 2) return refuse(answer, 3, 0);
     size_t n = u16(s + 5);
     if (n == 0 || n > MOST) return refuse(answer, 4, 0);
     if (s[7] != 0) return refuse(answer, 5, 0);
@@ -93,11 +102,19 @@ static uint8_t open_net(const uint8_t *s, size_t len, net *t, int64_t answer[8])
     for (size_t r = 0; r + 1 < n; r++) {
         const uint8_t *p = s + 12 + 12 * r;
         uint32_t a = u16(p), b = u16(p + 2), length = u32(p + 4);
-        int32_t weight = (int32_t)u32(p + 8);
+        int32_t weight;
         if (a >= n || b >= n) return refuse(answer, 7, r);
         if (a == b) return refuse(answer, 8, r);
         if (length > 1000000) return refuse(answer, 9, r);
-        if (weight < -1000000 || weight > 1000000) return refuse(answer, 10, r);
+        if (version == 1) {
+            weight = (int32_t)u32(p + 8);
+            if (weight < -1000000 || weight > 1000000) return refuse(answer, 10, r);
+        } else {
+            uint32_t kind = u16(p + 8), count = u16(p + 10);
+            if (kind >= 64) return refuse(answer, 22, r);
+            if (count > 20000) return refuse(answer, 23, r);
+            weight = (int32_t)count * score(kind);
+        }
         t->a[r] = (uint16_t)a, t->b[r] = (uint16_t)b, t->length[r] = (int32_t)length, t->weight[r] = weight;
     }
     uint16_t up[MOST];
@@ -113,7 +130,7 @@ static uint8_t open_net(const uint8_t *s, size_t len, net *t, int64_t answer[8])
     return 0;
 }
 
-/* 1 to 13. */
+/* Then 13. */
 static uint8_t begin(const uint8_t *s, size_t len, const uint16_t *marks, size_t marks_len, net *t, int64_t answer[8]) {
     uint8_t number = open_net(s, len, t, answer);
     if (number) return number;
@@ -132,7 +149,8 @@ uint8_t scan_accept(const uint8_t *table, size_t table_len, int64_t answer[8]) {
     return 0;
 }
 
-uint8_t scan_pair(const uint8_t *table, size_t table_len, const uint16_t *marks, size_t marks_len, uint16_t a, uint16_t b, int64_t answer[8]) {
+uint8_t scan_pair(const uint8_t *table, size_t table_len, const uint16_t *marks, size_t marks_len,
+                  uint16_t a, uint16_t b, int64_t answer[8]) {
     net t;
     paths p;
     uint8_t number = begin(table, table_len, marks, marks_len, &t, answer);
@@ -144,7 +162,8 @@ uint8_t scan_pair(const uint8_t *table, size_t table_len, const uint16_t *marks,
     return 0;
 }
 
-uint8_t scan_heaviest(const uint8_t *table, size_t table_len, const uint16_t *marks, size_t marks_len, int64_t answer[8]) {
+uint8_t scan_heaviest(const uint8_t *table, size_t table_len, const uint16_t *marks, size_t marks_len,
+                      int64_t answer[8]) {
     net t;
     paths p;
     uint8_t number = begin(table, table_len, marks, marks_len, &t, answer);
@@ -155,7 +174,8 @@ uint8_t scan_heaviest(const uint8_t *table, size_t table_len, const uint16_t *ma
         walk(&t, (uint16_t)a, &p);
         for (size_t b = a + 1; b < t.n; b++) {
             if (p.length[b] > t.bound || p.weight[b] < weight) continue;
-            if (p.weight[b] > weight || p.length[b] < length) low = a, high = b, length = p.length[b], weight = p.weight[b];
+            if (p.weight[b] > weight || p.length[b] < length)
+                low = a, high = b, length = p.length[b], weight = p.weight[b];
         }
     }
     if (weight == INT64_MIN) return refuse(answer, 16, 0);
@@ -164,7 +184,8 @@ uint8_t scan_heaviest(const uint8_t *table, size_t table_len, const uint16_t *ma
     return 0;
 }
 
-uint8_t scan_heaviest_exact(const uint8_t *table, size_t table_len, const uint16_t *marks, size_t marks_len, int64_t answer[8]) {
+uint8_t scan_heaviest_exact(const uint8_t *table, size_t table_len, const uint16_t *marks, size_t marks_len,
+                            int64_t answer[8]) {
     net t;
     paths p;
     uint8_t number = begin(table, table_len, marks, marks_len, &t, answer);
@@ -187,8 +208,9 @@ static void put(uint8_t *to, uint64_t x, size_t bytes) {
 }
 
 /* The pairs within the bound, or of exactly its length. */
-static uint8_t list(const uint8_t *table, size_t table_len, const uint16_t *marks, size_t marks_len, int exact, int64_t floor, uint16_t from_low,
-                    uint16_t from_high, uint8_t *rows, size_t rows_len, int64_t answer[8]) {
+static uint8_t list(const uint8_t *table, size_t table_len, const uint16_t *marks, size_t marks_len, int exact,
+                    int64_t floor, uint16_t from_low, uint16_t from_high,
+                    uint8_t *rows, size_t rows_len, int64_t answer[8]) {
     net t;
     paths p;
     uint8_t number = begin(table, table_len, marks, marks_len, &t, answer);
@@ -206,7 +228,8 @@ static uint8_t list(const uint8_t *table, size_t table_len, const uint16_t *mark
                 continue;
             }
             uint8_t *row = rows + 16 * written++;
-            put(row, a, 2), put(row + 2, b, 2), put(row + 4, (uint64_t)p.length[b], 4), put(row + 8, (uint64_t)p.weight[b], 8);
+            put(row, a, 2), put(row + 2, b, 2), put(row + 4, (uint64_t)p.length[b], 4),
+                put(row + 8, (uint64_t)p.weight[b], 8);
         }
     }
     refuse(answer, 0, 0);
@@ -214,18 +237,19 @@ static uint8_t list(const uint8_t *table, size_t table_len, const uint16_t *mark
     return 0;
 }
 
-uint8_t scan_listing(const uint8_t *table, size_t table_len, const uint16_t *marks, size_t marks_len, int64_t floor, uint16_t from_low,
-                     uint16_t from_high, uint8_t *rows, size_t rows_len, int64_t answer[8]) {
+uint8_t scan_listing(const uint8_t *table, size_t table_len, const uint16_t *marks, size_t marks_len, int64_t floor,
+                     uint16_t from_low, uint16_t from_high, uint8_t *rows, size_t rows_len, int64_t answer[8]) {
     return list(table, table_len, marks, marks_len, 0, floor, from_low, from_high, rows, rows_len, answer);
 }
 
-uint8_t scan_listing_exact(const uint8_t *table, size_t table_len, const uint16_t *marks, size_t marks_len, int64_t floor, uint16_t from_low,
-                           uint16_t from_high, uint8_t *rows, size_t rows_len, int64_t answer[8]) {
+uint8_t scan_listing_exact(const uint8_t *table, size_t table_len, const uint16_t *marks, size_t marks_len,
+                           int64_t floor, uint16_t from_low, uint16_t from_high,
+                           uint8_t *rows, size_t rows_len, int64_t answer[8]) {
     return list(table, table_len, marks, marks_len, 1, floor, from_low, from_high, rows, rows_len, answer);
 }
 
-uint8_t scan_claim(const uint8_t *table, size_t table_len, uint16_t *marks, size_t marks_len, uint16_t run, uint16_t a, uint16_t b,
-                   int64_t answer[8]) {
+uint8_t scan_claim(const uint8_t *table, size_t table_len, uint16_t *marks, size_t marks_len,
+                   uint16_t run, uint16_t a, uint16_t b, int64_t answer[8]) {
     net t;
     paths p;
     uint8_t number = begin(table, table_len, marks, marks_len, &t, answer);
@@ -243,7 +267,8 @@ uint8_t scan_claim(const uint8_t *table, size_t table_len, uint16_t *marks, size
     return 0;
 }
 
-uint8_t scan_abort(const uint8_t *table, size_t table_len, uint16_t *marks, size_t marks_len, uint16_t run, int64_t answer[8]) {
+uint8_t scan_abort(const uint8_t *table, size_t table_len, uint16_t *marks, size_t marks_len,
+                   uint16_t run, int64_t answer[8]) {
     net t;
     uint8_t number = begin(table, table_len, marks, marks_len, &t, answer);
     if (number) return number;

@@ -5,15 +5,20 @@
 #include <stdint.h>
 
 uint8_t scan_accept(const uint8_t *table, size_t table_len, int64_t answer[8]);
-uint8_t scan_pair(const uint8_t *table, size_t table_len, const uint16_t *marks, size_t marks_len, uint16_t a, uint16_t b, int64_t answer[8]);
-uint8_t scan_heaviest(const uint8_t *table, size_t table_len, const uint16_t *marks, size_t marks_len, int64_t answer[8]);
-uint8_t scan_heaviest_exact(const uint8_t *table, size_t table_len, const uint16_t *marks, size_t marks_len, int64_t answer[8]);
-uint8_t scan_listing(const uint8_t *table, size_t table_len, const uint16_t *marks, size_t marks_len, int64_t floor, uint16_t from_low,
-                     uint16_t from_high, uint8_t *rows, size_t rows_len, int64_t answer[8]);
-uint8_t scan_listing_exact(const uint8_t *table, size_t table_len, const uint16_t *marks, size_t marks_len, int64_t floor, uint16_t from_low,
-                           uint16_t from_high, uint8_t *rows, size_t rows_len, int64_t answer[8]);
-uint8_t scan_claim(const uint8_t *table, size_t table_len, uint16_t *marks, size_t marks_len, uint16_t run, uint16_t a, uint16_t b,
-                   int64_t answer[8]);
-uint8_t scan_abort(const uint8_t *table, size_t table_len, uint16_t *marks, size_t marks_len, uint16_t run, int64_t answer[8]);
+uint8_t scan_pair(const uint8_t *table, size_t table_len, const uint16_t *marks, size_t marks_len,
+                  uint16_t a, uint16_t b, int64_t answer[8]);
+uint8_t scan_heaviest(const uint8_t *table, size_t table_len, const uint16_t *marks, size_t marks_len,
+                      int64_t answer[8]);
+uint8_t scan_heaviest_exact(const uint8_t *table, size_t table_len, const uint16_t *marks, size_t marks_len,
+                            int64_t answer[8]);
+uint8_t scan_listing(const uint8_t *table, size_t table_len, const uint16_t *marks, size_t marks_len, int64_t floor,
+                     uint16_t from_low, uint16_t from_high, uint8_t *rows, size_t rows_len, int64_t answer[8]);
+uint8_t scan_listing_exact(const uint8_t *table, size_t table_len, const uint16_t *marks, size_t marks_len,
+                           int64_t floor, uint16_t from_low, uint16_t from_high,
+                           uint8_t *rows, size_t rows_len, int64_t answer[8]);
+uint8_t scan_claim(const uint8_t *table, size_t table_len, uint16_t *marks, size_t marks_len,
+                   uint16_t run, uint16_t a, uint16_t b, int64_t answer[8]);
+uint8_t scan_abort(const uint8_t *table, size_t table_len, uint16_t *marks, size_t marks_len,
+                   uint16_t run, int64_t answer[8]);
 
 #endif

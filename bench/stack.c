@@ -1,4 +1,5 @@
-/* How much stack each operation takes: on a thread whose stack was painted, over the five nets of 4,096 nodes and the same with a ring; the most is told. */
+/* How much stack each operation takes: on a thread whose stack was painted, over the five nets of 4,096 nodes
+   in both versions and the same with a ring; the most is told. */
 #include "hourbench.h"
 #include "nets.h"
 #include <pthread.h>
@@ -7,8 +8,8 @@
 #include <string.h>
 
 enum { STACK = 2 << 20, NODES = 4096, OPS = 11, PAINT = 0xA5 };
-static const char *names[OPS] = {"(the thread itself)", "hb_accept", "hb_pair", "hb_heaviest", "hb_heaviest_exact", "hb_heads",
-                                 "hb_listing", "hb_listing_exact", "hb_claim", "hb_commit", "hb_abort"};
+static const char *names[OPS] = {"(the thread itself)", "hb_accept", "hb_pair", "hb_heaviest", "hb_heaviest_exact",
+                                 "hb_heads", "hb_listing", "hb_listing_exact", "hb_claim", "hb_commit", "hb_abort"};
 static uint8_t table[12 * NODES], page[65536];
 static uint16_t marks[NODES], heads[NODES];
 static size_t size;
@@ -52,8 +53,9 @@ static int take(uint8_t *stack, size_t most[OPS]) {
 int main(void) {
     size_t most[OPS] = {0};
     uint8_t *stack = aligned_alloc(4096, STACK);
-    for (int shape = 0; shape < SHAPES; shape++) {
-        size = make_net(shape, NODES, VARIED, table);
+    for (int net = 0; net < 2 * SHAPES; net++) {
+        size = make_net(net / 2, NODES, VARIED, table);
+        if (net % 2) weigh_by_kind(NODES, table);
         if (take(stack, most)) return 2;
         close_ring(NODES, table);
         if (take(stack, most)) return 2;

@@ -37,7 +37,8 @@ int main(int argc, char **argv) {
     printf("run 7 claims %" PRId64 "\n", answer[3]);
 
     if (hb_heaviest(table, size, marks, branches, answer)) return refused(answer);
-    printf("next %" PRId64 " %" PRId64 " length %" PRId64 " weight %" PRId64 "\n", answer[3], answer[4], answer[5], answer[6]);
+    printf("next %" PRId64 " %" PRId64 " length %" PRId64 " weight %" PRId64 "\n",
+           answer[3], answer[4], answer[5], answer[6]);
 
     if (hb_abort(table, size, marks, branches, 7, answer)) return refused(answer);
     printf("run 7 aborted, %" PRId64 " freed\n", answer[3]);

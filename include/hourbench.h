@@ -1,4 +1,5 @@
-/* Hourbench for C: the heaviest run in one routed net. Link libhourbench.a (docs/LINKING.md says how it is made), x86-64 Linux.
+/* Hourbench for C: the heaviest run in one routed net. Link libhourbench.a (docs/LINKING.md says how it is made),
+   x86-64 Linux.
 
    Every function returns the refusal number, 0 where nothing is refused, and writes all 8 of `answer`:
 
@@ -14,28 +15,40 @@
    - No pointer is null, also where the length is 0: any address that suits the type does for nothing.
    - Each pointer is aligned for its type, and the elements that its length counts are there, initialised and readable;
      `answer` has 8. A parameter without `const` is writable.
-   - Memory that is written (`heads`, `rows`, `marks` of claim, commit and abort, and `answer`) overlaps no other argument, and
-     no other thread reads or writes it before the call returns. Memory that is read is not changed before the call returns.
-   - There is stack for the operation's work arrays (docs/LINKING.md says how much); there is no heap, and nothing is kept
-     between calls, so that calls from several threads do not meet.
+   - Memory that is written (`heads`, `rows`, `marks` of claim, commit and abort, and `answer`) overlaps no other
+     argument, and no other thread reads or writes it before the call returns. Memory that is read is not changed before
+     the call returns.
+   - There is stack for the operation's work arrays (docs/LINKING.md says how much); there is no heap, and nothing is
+     kept between calls, so that calls from several threads do not meet.
 
-   table     the branch table, version 1: 12 x n bytes
-   marks     one number for each branch, in row order, n - 1 of them: 0 free, 1 to 65,534 held by that run, 65,535 spent.
-             A marked branch weighs the lesser of 0 and its own weight; its length stays
+   table     the branch table, version 1 or 2: 12 x n bytes, all numbers little-endian. The header, 12 bytes: the
+             letters RTN; version, 16 bits; node count n, 16 bits, 1 to 4,096; one byte, 0; wire bound, 32 bits
+             unsigned. Then n - 1 rows of 12 bytes, numbered from 0, one for each branch: node, node, 16 bits each,
+             different and below n; length, 32 bits unsigned, at most 1,000,000; then
+             - in version 1 the weight, 32 bits signed, -1,000,000 to 1,000,000;
+             - in version 2 a cell kind, 0 to 63, and a count, 0 to 20,000, 16 bits unsigned each. The branch weighs
+               count x score. Kinds 0 to 23 score, in order, 1, 2, 2, 3, 3, 4, 4, 5, 6, 6, 8, 8, 10, 10, 12, 12, 14, 14,
+               16, 16, 18, 20, 22, 24; kinds 24 to 31 are filler and score 0; kinds 32 to 63 are blocked ground and
+               score -50.
+             The rows must join all nodes in a tree
+   marks     one number for each branch, in row order, n - 1 of them: 0 free, 1 to 65,534 held by that run, 65,535
+             spent. A marked branch weighs the lesser of 0 and its own weight; its length stays
 
    Refusal numbers, each given exactly when its condition holds and none before it in the operation's order does:
         1  under 12 bytes                         11  ring: the row whose ends earlier rows already join
         2  mark not RTN                           12  no ring, yet some node isn't joined to node 0
-        3  version not 1                          13  marks are not n - 1 in number
+        3  version neither 1 nor 2                13  marks are not n - 1 in number
         4  n is 0 or above 4,096                  14  run number 0 or 65,535
         5  reserved byte not 0                    15  a node not below n, or both the same
         6  size not 12 x n                        16  no pair within the bound
         7  row names a node not below n           17  under 16 bytes for rows
         8  row joins a node to itself             18  path longer than the bound
         9  length out of range                    19  no free branch on the path
-       10  weight out of range                    20  list of heads is not n long
+       10  weight out of range (version 1)        20  list of heads is not n long
                                                   21  no pair of exactly the bound's length
-   Every function begins with 1 to 12. */
+                                                  22  unknown cell kind: 64 or more (version 2)
+                                                  23  count above 20,000 (version 2)
+   Every function begins with 1 to 12; for rows of version 2, 22 and then 23 stand where 10 does. */
 #ifndef HOURBENCH_H
 #define HOURBENCH_H
 
@@ -43,10 +56,10 @@
 #include <stdint.h>
 
 /* The library's version; CHANGES.md says how it moves. */
-#define HB_VERSION "1.3.1"
+#define HB_VERSION "1.4.0"
 #define HB_VERSION_MAJOR 1
-#define HB_VERSION_MINOR 3
-#define HB_VERSION_PATCH 1
+#define HB_VERSION_MINOR 4
+#define HB_VERSION_PATCH 0
 
 #ifdef __cplusplus
 extern "C" {
@@ -55,25 +68,27 @@ extern "C" {
 /* Is the table a tree? Fields: nodes, bound. */
 uint8_t hb_accept(const uint8_t *table, size_t table_len, int64_t *answer);
 
-/* The path between two nodes, in either order; one longer than the bound is shown. Fields: length, weight, hops. Then 13, 15. */
+/* The path between two nodes, in either order; one longer than the bound is shown. Fields: length, weight, hops.
+   Then 13, 15. */
 uint8_t hb_pair(const uint8_t *table, size_t table_len, const uint16_t *marks, size_t marks_len,
                 uint16_t a, uint16_t b, int64_t *answer);
 
-/* The heaviest run within the bound; of equal weight the shorter, then the earlier pair. Fields: low, high, length, weight.
-   Then 13, 16. */
+/* The heaviest run within the bound; of equal weight the shorter, then the earlier pair.
+   Fields: low, high, length, weight. Then 13, 16. */
 uint8_t hb_heaviest(const uint8_t *table, size_t table_len, const uint16_t *marks, size_t marks_len, int64_t *answer);
 
 /* The heaviest run of exactly the bound's length; of equal weight the earlier pair. Fields: low, high, length, weight.
    Then 13, 21. */
-uint8_t hb_heaviest_exact(const uint8_t *table, size_t table_len, const uint16_t *marks, size_t marks_len, int64_t *answer);
+uint8_t hb_heaviest_exact(const uint8_t *table, size_t table_len, const uint16_t *marks, size_t marks_len,
+                          int64_t *answer);
 
 /* Each node's head, into `heads`, which is n long. No fields. Then 20. */
 uint8_t hb_heads(const uint8_t *table, size_t table_len, uint16_t *heads, size_t heads_len, int64_t *answer);
 
-/* The pairs strictly after (from_low, from_high), within the bound and weighing at least `floor`, in pair order: as many as fit
-   into `rows`, 16 bytes each, little-endian: node, node (16 bits each), length (32 bits), weight (64 bits signed). Bytes beyond
-   the rows written stay unchanged. (0, 0) starts; go on from the last pair written until none is left.
-   Fields: written, left. Then 13, 17. */
+/* The pairs strictly after (from_low, from_high), within the bound and weighing at least `floor`, in pair order: as
+   many as fit into `rows`, 16 bytes each, little-endian: node, node (16 bits each), length (32 bits), weight (64 bits
+   signed). Bytes beyond the rows written stay unchanged. (0, 0) starts; go on from the last pair written until none is
+   left. Fields: written, left. Then 13, 17. */
 uint8_t hb_listing(const uint8_t *table, size_t table_len, const uint16_t *marks, size_t marks_len, int64_t floor,
                    uint16_t from_low, uint16_t from_high, uint8_t *rows, size_t rows_len, int64_t *answer);
 
@@ -85,9 +100,12 @@ uint8_t hb_listing_exact(const uint8_t *table, size_t table_len, const uint16_t 
 uint8_t hb_claim(const uint8_t *table, size_t table_len, uint16_t *marks, size_t marks_len,
                  uint16_t run, uint16_t a, uint16_t b, int64_t *answer);
 
-/* Each branch held by the run becomes spent (commit) or free (abort); 0 is a proper result. Fields: changed. Then 13, 14. */
-uint8_t hb_commit(const uint8_t *table, size_t table_len, uint16_t *marks, size_t marks_len, uint16_t run, int64_t *answer);
-uint8_t hb_abort(const uint8_t *table, size_t table_len, uint16_t *marks, size_t marks_len, uint16_t run, int64_t *answer);
+/* Each branch held by the run becomes spent (commit) or free (abort); 0 is a proper result. Fields: changed.
+   Then 13, 14. */
+uint8_t hb_commit(const uint8_t *table, size_t table_len, uint16_t *marks, size_t marks_len,
+                  uint16_t run, int64_t *answer);
+uint8_t hb_abort(const uint8_t *table, size_t table_len, uint16_t *marks, size_t marks_len,
+                 uint16_t run, int64_t *answer);
 
 #ifdef __cplusplus
 }

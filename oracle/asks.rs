@@ -11,6 +11,7 @@ pub enum Op {
     RowPart,
     NextRow,
     FirstRow,
+    Row,
     Accept,
     Pair,
     Heaviest,
@@ -24,12 +25,13 @@ pub enum Op {
 }
 
 /// Each operation's code in an ask.
-pub const CODES: [(Op, u16); 15] = [
+pub const CODES: [(Op, u16); 16] = [
     (Op::Open, 1),
     (Op::Examine, 2),
     (Op::RowPart, 3),
     (Op::NextRow, 4),
     (Op::FirstRow, 5),
+    (Op::Row, 6),
     (Op::Accept, 17),
     (Op::Pair, 18),
     (Op::Heaviest, 19),
@@ -77,7 +79,7 @@ impl Ask {
             Op::NextRow | Op::Claim | Op::Commit | Op::Abort => 1,
             Op::Open | Op::Examine | Op::Accept | Op::Listing | Op::ListingExact => 2,
             Op::Pair => 3,
-            Op::Heaviest | Op::HeaviestExact => 4,
+            Op::Row | Op::Heaviest | Op::HeaviestExact => 4,
         }
     }
 
@@ -107,6 +109,10 @@ impl Ask {
             Op::Examine => net::examine(t).map(|(n, bound, _)| vec![n as i128, bound as i128]),
             Op::RowPart | Op::FirstRow => Ok(vec![]),
             Op::NextRow => Ok(vec![net::next(t, self.x) as i128]),
+            Op::Row => {
+                let row = net::decoded(t, self.x);
+                Ok(run((row.ends[0], row.ends[1], row.length, row.weight)))
+            }
             Op::Accept => net::accept(t).map(|net| vec![net.n as i128, net.bound as i128]),
             Op::Pair => net::pair(t, marks, self.a, self.b).map(|(l, w, h)| vec![l as i128, w as i128, h as i128]),
             Op::Heaviest => net::heaviest(t, marks).map(run),

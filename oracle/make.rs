@@ -1,14 +1,14 @@
 //! Random cases, some damaged.
 use crate::net::{self, Net};
-use crate::plain::{table, Branch, Plain};
+use crate::plain::{table, Branch, Carried, Plain};
 use crate::random::Random;
 
 /// The parent of each node but 0, by shape.
 fn shape(r: &mut Random, n: usize) -> Vec<usize> {
-    let kind = r.below(9);
+    let sort = r.below(9);
     let spine = (n / 2).max(1);
     (1..n)
-        .map(|i| match kind {
+        .map(|i| match sort {
             0 => i - 1,
             1 => 0,
             2 if i < spine => i - 1,
@@ -25,9 +25,9 @@ fn shape(r: &mut Random, n: usize) -> Vec<usize> {
 }
 
 fn lengths(r: &mut Random, n: usize) -> Vec<u32> {
-    let kind = r.below(6);
+    let sort = r.below(6);
     (1..n)
-        .map(|_| match kind {
+        .map(|_| match sort {
             0 => 0,
             1 => 1,
             2 => r.within(0, 4) as u32,
@@ -39,9 +39,9 @@ fn lengths(r: &mut Random, n: usize) -> Vec<u32> {
 }
 
 fn weights(r: &mut Random, n: usize) -> Vec<i32> {
-    let kind = r.below(7);
+    let sort = r.below(7);
     (1..n)
-        .map(|_| match kind {
+        .map(|_| match sort {
             0 => 0,
             1 => 1,
             2 => r.within(-3, 3) as i32,
@@ -53,9 +53,45 @@ fn weights(r: &mut Random, n: usize) -> Vec<i32> {
         .collect()
 }
 
+/// Kinds of every class and at the edges of each; counts at their edges, small, anywhere.
+fn cells(r: &mut Random, n: usize) -> Vec<(u16, u16)> {
+    let (sort, many) = (r.below(7), r.below(6));
+    let kind = |r: &mut Random| match sort {
+        0 => 0,
+        1 => r.below(24),
+        2 => r.below(32),
+        3 => r.pick(&[0, 23, 24, 31, 32, 63]),
+        4 => 32 + r.below(32),
+        5 => if r.one_in(6) { 32 + r.below(32) } else { r.below(24) },
+        _ => match r.below(3) {
+            0 => r.below(24),
+            1 => 24 + r.below(8),
+            _ => 32 + r.below(32),
+        },
+    };
+    let count = |r: &mut Random| match many {
+        0 => 1,
+        1 => r.below(4),
+        2 => r.pick(&[0, 1, 19_999, 20_000]),
+        3 => 20_000,
+        4 => r.below(100),
+        _ => r.below(20_001),
+    };
+    (1..n).map(|_| (kind(r) as u16, count(r) as u16)).collect()
+}
+
+/// What each row carries in a table of this version.
+fn carried(r: &mut Random, n: usize, version: u8) -> Vec<Carried> {
+    if version == 1 {
+        weights(r, n).into_iter().map(Carried::Weight).collect()
+    } else {
+        cells(r, n).into_iter().map(|(kind, count)| Carried::Cells(kind, count)).collect()
+    }
+}
+
 /// Rows in any order, ends either way round, nodes by any name.
-fn branches(r: &mut Random, n: usize) -> Vec<Branch> {
-    let (up, long, heavy) = (shape(r, n), lengths(r, n), weights(r, n));
+fn branches(r: &mut Random, n: usize, version: u8) -> Vec<Branch> {
+    let (up, long, heavy) = (shape(r, n), lengths(r, n), carried(r, n, version));
     let mut name: Vec<u16> = (0..n as u16).collect();
     if !r.one_in(4) {
         r.shuffle(&mut name);
@@ -79,7 +115,8 @@ fn some_pair(r: &mut Random, net: &Net, marks: &[u16]) -> (u64, i64) {
     (f.length[b], f.weight[b])
 }
 
-fn damage(r: &mut Random, t: &mut Vec<u8>, n: usize) {
+/// One fault, of a table of this version.
+fn damage(r: &mut Random, t: &mut Vec<u8>, n: usize, version: u8) {
     let some_row = |r: &mut Random| if n < 2 { 0 } else { 12 + 12 * r.below(n - 1) };
     let put = |t: &mut Vec<u8>, at: usize, bytes: &[u8]| {
         for (i, b) in bytes.iter().enumerate() {
@@ -89,25 +126,32 @@ fn damage(r: &mut Random, t: &mut Vec<u8>, n: usize) {
         }
     };
     let (one, two) = (some_row(r), some_row(r));
-    match r.below(17) {
+    match r.below(20) {
         0 => t.truncate(r.below(t.len() + 1)),
         1 => t.truncate(r.below(14)),
         2 => t.extend(vec![0; 1 + r.below(13)]),
         3 => put(t, r.below(3), &[r.next() as u8]),
-        4 => put(t, 3 + r.below(2), &[r.pick(&[0, 1, 2, 255])]),
+        4 => put(t, 3 + r.below(2), &[r.pick(&[0, 1, 2, 3, 255])]),
         5 => put(t, 5, &r.pick(&[0u16, 1, 2, n as u16 + 1, n as u16 - 1, 4096, 4097, 65535]).to_le_bytes()),
         6 => put(t, 7, &[1 << r.below(8)]),
+        // The other version: each weight read as kind and count, or the other way round.
+        7 => put(t, 3, &[3 - version]),
         _ if n < 2 => t.truncate(11),
-        7 => put(t, one + 2 * r.below(2), &r.pick(&[n as u16, n as u16 + 1, 65535]).to_le_bytes()),
-        8 => put(t, one, &[t[one + 2], t[one + 3]].clone()),
-        9 => put(t, one + 4, &r.pick(&[1_000_001u32, 1 << 31, u32::MAX]).to_le_bytes()),
-        10 => put(t, one + 8, &r.pick(&[1_000_001i32, -1_000_001, i32::MIN, i32::MAX]).to_le_bytes()),
+        8 => put(t, one + 2 * r.below(2), &r.pick(&[n as u16, n as u16 + 1, 65535]).to_le_bytes()),
+        9 => put(t, one, &[t[one + 2], t[one + 3]].clone()),
+        10 => put(t, one + 4, &r.pick(&[1_000_001u32, 1 << 31, u32::MAX]).to_le_bytes()),
+        11..=13 if version == 1 => {
+            put(t, one + 8, &r.pick(&[1_000_001i32, -1_000_001, i32::MIN, i32::MAX]).to_le_bytes())
+        }
+        11 => put(t, one + 8, &r.pick(&[64u16, 65, 65_535]).to_le_bytes()),
+        12 => put(t, one + 10, &r.pick(&[20_001u16, 65_535]).to_le_bytes()),
+        13 => for half in [one + 8, one + 10] { put(t, half, &r.pick(&[63u16, 64, 20_001]).to_le_bytes()) },
         // Rings: a repeat, a repeat the other way round, an end moved, three ends moved, a row moved; a byte changed.
-        11 => { let row = t[one..one + 4].to_vec(); put(t, two, &row) }
-        12 => { let row = [t[one + 2], t[one + 3], t[one], t[one + 1]]; put(t, two, &row) }
-        13 => put(t, one, &(r.below(n) as u16).to_le_bytes()),
-        14 => for _ in 0..3 { let at = some_row(r); put(t, at + 2, &(r.below(n) as u16).to_le_bytes()) },
-        15 => for end in [one, one + 2] { put(t, end, &(r.below(n) as u16).to_le_bytes()) },
+        14 => { let row = t[one..one + 4].to_vec(); put(t, two, &row) }
+        15 => { let row = [t[one + 2], t[one + 3], t[one], t[one + 1]]; put(t, two, &row) }
+        16 => put(t, one, &(r.below(n) as u16).to_le_bytes()),
+        17 => for _ in 0..3 { let at = some_row(r); put(t, at + 2, &(r.below(n) as u16).to_le_bytes()) },
+        18 => for end in [one, one + 2] { put(t, end, &(r.below(n) as u16).to_le_bytes()) },
         _ => { let at = r.below(t.len()); put(t, at, &[r.next() as u8]) }
     }
 }
@@ -119,7 +163,8 @@ fn random(r: &mut Random, limit: usize) -> Plain {
         2 | 3 => 1 + r.below(limit.min(12)),
         _ => 1 + r.below(limit),
     };
-    let rows = branches(r, n);
+    let version = if r.one_in(3) { 2 } else { 1 };
+    let rows = branches(r, n, version);
     let run = if r.one_in(8) { r.pick(&[0, 65535, 65534]) } else { 1 + r.below(4) as u16 };
     let full = r.below(4);
     let mark = |r: &mut Random| match full {
@@ -142,6 +187,7 @@ fn random(r: &mut Random, limit: usize) -> Plain {
         _ => length as u32,
     };
     let mut t = table(n as u16, bound, &rows);
+    t[3] = version;
 
     let floor = match r.below(8) {
         0 => i64::MIN,
@@ -177,9 +223,15 @@ fn random(r: &mut Random, limit: usize) -> Plain {
         marks.resize(wrong, 0);
     }
     let heads = if r.one_in(12) { r.pick(&[0, n - 1, n + 1]) } else { n } as u16;
-    let other = if r.one_in(8) { r.pick(&[0, 65535, 65534]) } else if r.one_in(3) { run } else { 1 + r.below(4) as u16 };
+    let other = if r.one_in(8) {
+        r.pick(&[0, 65535, 65534])
+    } else if r.one_in(3) {
+        run
+    } else {
+        1 + r.below(4) as u16
+    };
     if r.one_in(4) {
-        damage(r, &mut t, n);
+        damage(r, &mut t, n, version);
         if r.one_in(4) {
             damage_again(r, &mut t);
         }

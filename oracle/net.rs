@@ -35,12 +35,37 @@ pub struct From {
     pub last: Vec<Option<(usize, usize)>>,
 }
 
+/// The scores of kinds 0 to 23, in order (document 02, Req 05).
+const SCORES: [i64; 24] = [1, 2, 2, 3, 3, 4, 4, 5, 6, 6, 8, 8, 10, 10, 12, 12, 14, 14, 16, 16, 18, 20, 22, 24];
+
+/// A kind's score: kinds 24 to 31 are filler and score 0, kinds 32 to 63 are blocked ground and score -50; higher ones
+/// are unknown and have none.
+fn score(kind: usize) -> Option<i64> {
+    if kind <= 23 {
+        Some(SCORES[kind])
+    } else if kind <= 31 {
+        Some(0)
+    } else if kind <= 63 {
+        Some(-50)
+    } else {
+        None
+    }
+}
+
 fn u16_at(s: &[u8], at: usize) -> usize {
     u16::from_le_bytes([s[at], s[at + 1]]) as usize
 }
 
 fn u32_at(s: &[u8], at: usize) -> u32 {
     u32::from_le_bytes([s[at], s[at + 1], s[at + 2], s[at + 3]])
+}
+
+fn i32_at(s: &[u8], at: usize) -> i32 {
+    i32::from_le_bytes([s[at], s[at + 1], s[at + 2], s[at + 3]])
+}
+
+fn version(s: &[u8]) -> usize {
+    u16_at(s, 3)
 }
 
 /// How many branches the path has that these rows, which make no ring, make between two of n nodes: from the one node
@@ -70,7 +95,7 @@ pub fn open(s: &[u8]) -> Result<(usize, u64), Refused> {
     if &s[0..3] != b"RTN" {
         return Err(refused(2, 0));
     }
-    if u16_at(s, 3) != 1 {
+    if version(s) != 1 && version(s) != 2 {
         return Err(refused(3, 0));
     }
     let n = u16_at(s, 5);
@@ -86,7 +111,7 @@ pub fn open(s: &[u8]) -> Result<(usize, u64), Refused> {
     Ok((n, u32_at(s, 8) as u64))
 }
 
-/// Then 7 to 10, row by row.
+/// Then row by row 7, 8, 9, and 10 in version 1, 22 and 23 in version 2, where the weight is count times score.
 pub fn examine(s: &[u8]) -> Result<(usize, u64, Vec<Row>), Refused> {
     let (n, bound) = open(s)?;
     let mut rows = Vec::new();
@@ -94,7 +119,6 @@ pub fn examine(s: &[u8]) -> Result<(usize, u64, Vec<Row>), Refused> {
         let at = 12 + 12 * r;
         let ends = [u16_at(s, at), u16_at(s, at + 2)];
         let length = u32_at(s, at + 4) as u64;
-        let weight = u32_at(s, at + 8) as i32 as i64;
         if ends[0] >= n || ends[1] >= n {
             return Err(refused(7, r));
         }
@@ -104,8 +128,19 @@ pub fn examine(s: &[u8]) -> Result<(usize, u64, Vec<Row>), Refused> {
         if length > 1_000_000 {
             return Err(refused(9, r));
         }
-        if !(-1_000_000..=1_000_000).contains(&weight) {
-            return Err(refused(10, r));
+        let weight;
+        if version(s) == 1 {
+            weight = i32_at(s, at + 8) as i64;
+            if !(-1_000_000..=1_000_000).contains(&weight) {
+                return Err(refused(10, r));
+            }
+        } else {
+            let (kind, count) = (u16_at(s, at + 8), u16_at(s, at + 10));
+            let score = score(kind).ok_or(refused(22, r))?;
+            if count > 20_000 {
+                return Err(refused(23, r));
+            }
+            weight = count as i64 * score;
         }
         rows.push(Row { ends, length, weight });
     }
@@ -156,6 +191,22 @@ pub fn first(s: &[u8]) -> &[u8] {
     part(if open(s).is_ok() { s } else { &[] }, 0)
 }
 
+/// A decoded row, of any bytes and any row number. What the documents leave open is decided in docs/DECISIONS.md: all
+/// is 0 where no row stands; a version that is neither 1 nor 2 is read as version 1; an unknown kind weighs 0; nothing
+/// else is tested, so a count above 20,000 weighs count times score too.
+pub fn decoded(s: &[u8], row: u64) -> Row {
+    let part = part(s, row);
+    if part.is_empty() {
+        return Row { ends: [0, 0], length: 0, weight: 0 };
+    }
+    let weight = if version(s) == 2 {
+        u16_at(part, 10) as i64 * score(u16_at(part, 8)).unwrap_or(0)
+    } else {
+        i32_at(part, 8) as i64
+    };
+    Row { ends: [u16_at(part, 0), u16_at(part, 2)], length: u32_at(part, 4) as u64, weight }
+}
+
 impl Net {
     /// Walks from `a` to every node. A marked branch weighs the lesser of 0 and its own weight (document 02, Req 01).
     pub fn from(&self, a: usize, marks: &[u16]) -> From {
@@ -167,7 +218,8 @@ impl Net {
                     continue;
                 }
                 f.length[y] = f.length[x] + self.rows[r].length;
-                f.weight[y] = f.weight[x] + if marks[r] == 0 { self.rows[r].weight } else { self.rows[r].weight.min(0) };
+                f.weight[y] = f.weight[x]
+                    + if marks[r] == 0 { self.rows[r].weight } else { self.rows[r].weight.min(0) };
                 f.last[y] = Some((r, x));
                 to_do.push(y);
             }

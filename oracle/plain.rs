@@ -2,8 +2,15 @@
 use crate::asks::{Ask, Op};
 use crate::cases::Case;
 
-/// Two nodes, length, weight.
-pub type Branch = (u16, u16, u32, i32);
+/// What a row carries beside its nodes and length: its weight (version 1), or a kind and a count (version 2).
+#[derive(Clone, Copy)]
+pub enum Carried {
+    Weight(i32),
+    Cells(u16, u16),
+}
+
+/// Two nodes, length, and what it carries.
+pub type Branch = (u16, u16, u32, Carried);
 
 #[derive(Clone)]
 pub struct Plain {
@@ -25,16 +32,28 @@ pub struct Plain {
     pub floor: i64,
 }
 
+/// The version of a table with these rows, which are all alike; 1 where there are none.
+pub fn version(rows: &[Branch]) -> u16 {
+    match rows.first() {
+        Some((_, _, _, Carried::Cells(..))) => 2,
+        _ => 1,
+    }
+}
+
 pub fn table(n: u16, bound: u32, rows: &[Branch]) -> Vec<u8> {
-    let mut t = b"RTN\x01\x00".to_vec();
+    let mut t = b"RTN".to_vec();
+    t.extend(version(rows).to_le_bytes());
     t.extend(n.to_le_bytes());
     t.push(0);
     t.extend(bound.to_le_bytes());
-    for (a, b, length, weight) in rows {
+    for (a, b, length, carried) in rows {
         t.extend(a.to_le_bytes());
         t.extend(b.to_le_bytes());
         t.extend(length.to_le_bytes());
-        t.extend(weight.to_le_bytes());
+        match carried {
+            Carried::Weight(weight) => t.extend(weight.to_le_bytes()),
+            Carried::Cells(kind, count) => t.extend([kind.to_le_bytes(), count.to_le_bytes()].concat()),
+        }
     }
     t
 }

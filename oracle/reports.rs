@@ -1,12 +1,12 @@
 //! The reports: tables in the form that crates/reports reads, the cases that stand first there, and the report of each.
 use crate::net;
-use crate::plain::{plain, table, Branch, Plain};
+use crate::plain::{plain, table, Carried, Plain};
 use std::io::{Read, Result, Write};
 
 pub fn write(out: &mut impl Write, cases: &[Plain]) -> Result<()> {
     out.write_all(&(cases.len() as u32).to_le_bytes())?;
     for c in cases {
-        let (kind, lifted) = match c.floor {
+        let (sort, lifted) = match c.floor {
             i64::MIN => (1u16, 0),
             i64::MAX => (2, 0),
             z => (0, (z + (1 << 33)) as u64),
@@ -23,7 +23,7 @@ pub fn write(out: &mut impl Write, cases: &[Plain]) -> Result<()> {
             c.start.1,
             c.room,
             c.heads,
-            kind,
+            sort,
         ];
         for w in words {
             out.write_all(&w.to_le_bytes())?;
@@ -78,10 +78,27 @@ pub fn report(out: &mut impl Write, t: &[u8]) -> Result<()> {
     writeln!(out, "total {total}")
 }
 
-const N5: [Branch; 4] = [(0, 1, 4, 5), (1, 2, 3, 2), (1, 3, 6, 7), (3, 4, 2, -3)];
+/// Node, node, length, weight.
+type Weighed = (u16, u16, u32, i32);
+
+fn version_1(n: u16, bound: u32, rows: &[Weighed]) -> Vec<u8> {
+    table(n, bound, &rows.iter().map(|&(a, b, l, w)| (a, b, l, Carried::Weight(w))).collect::<Vec<_>>())
+}
+
+/// Node, node, length, kind, count.
+type Counted = (u16, u16, u32, u16, u16);
+
+fn version_2(n: u16, bound: u32, rows: &[Counted]) -> Vec<u8> {
+    table(n, bound, &rows.iter().map(|&(a, b, l, k, c)| (a, b, l, Carried::Cells(k, c))).collect::<Vec<_>>())
+}
+
+const N5: [Weighed; 4] = [(0, 1, 4, 5), (1, 2, 3, 2), (1, 3, 6, 7), (3, 4, 2, -3)];
+
+/// A net shaped as N5, of version 2 (document 02, Req 05): 5, 2 and 7 cells of kind 0, and blocked ground.
+const CELLS: [Counted; 4] = [(0, 1, 4, 0, 5), (1, 2, 3, 0, 2), (1, 3, 6, 0, 7), (3, 4, 2, 32, 1)];
 
 fn n5(bound: u32) -> Vec<u8> {
-    table(5, bound, &N5)
+    version_1(5, bound, &N5)
 }
 
 /// Nets with rings (document 02, Req 03): of two rows, either way round; of three, with a branch apart; in a far part;
@@ -89,8 +106,8 @@ fn n5(bound: u32) -> Vec<u8> {
 /// shorter; and one with rows that hang from it, lead to it and follow it.
 fn rings() -> Vec<Vec<u8>> {
     let of = |ends: &[(u16, u16)]| {
-        let rows: Vec<Branch> = ends.iter().map(|(a, b)| (*a, *b, 3, 2)).collect();
-        table(rows.len() as u16 + 1, 8, &rows)
+        let rows: Vec<Weighed> = ends.iter().map(|(a, b)| (*a, *b, 3, 2)).collect();
+        version_1(rows.len() as u16 + 1, 8, &rows)
     };
     vec![
         of(&[(0, 1), (0, 1), (1, 3), (3, 4)]),
@@ -104,31 +121,60 @@ fn rings() -> Vec<Vec<u8>> {
     ]
 }
 
+/// Tables of version 2 (document 02, Req 05): CELLS with each bound, once read as version 1; of version 3; with an
+/// unknown kind, with a count too great, with both, and with these in two rows; blocked ground alone; the largest
+/// counts; and filler, which ties.
+fn scored() -> Vec<Vec<u8>> {
+    let changed = |row: usize, to: Counted| {
+        let mut rows = CELLS;
+        rows[row] = to;
+        rows
+    };
+    let of = |rows: &[Counted]| version_2(rows.len() as u16 + 1, 9, rows);
+    let mut all: Vec<Vec<u8>> = [8, 9, 10, 2, 1].iter().map(|b| version_2(5, *b, &CELLS)).collect();
+    for version in [1, 3] {
+        let mut t = of(&CELLS);
+        t[3] = version;
+        all.push(t);
+    }
+    all.push(of(&changed(2, (1, 3, 6, 64, 7))));
+    all.push(of(&changed(3, (3, 4, 2, 32, 20_001))));
+    all.push(of(&changed(1, (1, 2, 3, 64, 20_001))));
+    let mut two = changed(1, (1, 2, 3, 24, 20_001));
+    two[2] = (1, 5, 6, 64, 7);
+    all.push(of(&two));
+    all.push(of(&[(0, 1, 4, 32, 2), (1, 2, 5, 63, 1), (1, 3, 4, 50, 1)]));
+    all.push(of(&[(0, 1, 4, 23, 20_000), (1, 2, 5, 22, 20_000), (1, 3, 4, 63, 20_000)]));
+    all.push(of(&[(0, 1, 4, 24, 20_000), (1, 2, 5, 31, 1), (1, 3, 4, 27, 0)]));
+    all
+}
+
 /// Document 01's own, a refusal of each sort, a ring, all weights negative, one node, the largest numbers, and ties
-/// over several pages (`room` is a page's bytes) and over more lines than a buffer of text has.
+/// over several pages (`room` is a page's bytes) and over more lines than a buffer of text has; then version 2.
 pub fn first() -> Vec<Plain> {
     let of = |table: Vec<u8>, room| Plain { table, room, ..plain(n5(8), &[]) };
-    let star = |n: u16, bound, weight| table(n, bound, &(1..n).map(|x| (0, x, 0, weight)).collect::<Vec<_>>());
+    let star = |n: u16, bound, weight| version_1(n, bound, &(1..n).map(|x| (0, x, 0, weight)).collect::<Vec<_>>());
     let mut all: Vec<Plain> = [8, 9, 10, 2, 1].iter().map(|b| of(n5(*b), 160)).collect();
     let mut ring = N5;
     ring[1] = (0, 1, 3, 2);
-    all.push(of(table(5, 8, &ring), 16));
+    all.push(of(version_1(5, 8, &ring), 16));
     all.extend(rings().into_iter().map(|t| of(t, 16)));
-    all.push(of(table(1, 9, &[]), 16));
+    all.push(of(version_1(1, 9, &[]), 16));
     all.push(of(vec![], 16));
     all.push(of(n5(8)[..48].to_vec(), 16));
-    all.push(of(table(4097, 8, &N5), 16));
-    all.push(of(table(3, 8, &[(0, 1, 3, 2), (1, 3, 3, 2)]), 16));
-    all.push(of(table(3, 8, &[(0, 1, 3, 2), (1, 2, 1_000_001, 2)]), 16));
-    all.push(of(table(4, 9, &[(0, 1, 4, -5), (1, 2, 5, -5), (1, 3, 4, -6)]), 16));
-    all.push(of(table(3, u32::MAX, &[(2, 1, 1_000_000, -1_000_000), (1, 0, 1_000_000, -1_000_000)]), 16));
-    let far: Vec<Branch> = (1..60).map(|x| (x - 1, x, 1_000_000, 1_000_000)).collect();
-    all.push(of(table(60, u32::MAX, &far), 16));
+    all.push(of(version_1(4097, 8, &N5), 16));
+    all.push(of(version_1(3, 8, &[(0, 1, 3, 2), (1, 3, 3, 2)]), 16));
+    all.push(of(version_1(3, 8, &[(0, 1, 3, 2), (1, 2, 1_000_001, 2)]), 16));
+    all.push(of(version_1(4, 9, &[(0, 1, 4, -5), (1, 2, 5, -5), (1, 3, 4, -6)]), 16));
+    all.push(of(version_1(3, u32::MAX, &[(2, 1, 1_000_000, -1_000_000), (1, 0, 1_000_000, -1_000_000)]), 16));
+    let far: Vec<Weighed> = (1..60).map(|x| (x - 1, x, 1_000_000, 1_000_000)).collect();
+    all.push(of(version_1(60, u32::MAX, &far), 16));
     for room in [0, 16, 33, 95, 96, 160] {
         all.push(of(star(4, 0, 0), room));
     }
     all.push(of(star(5, 0, -7), 32));
     all.push(of(star(40, 0, 0), 9_600));
     all.push(of(star(40, 0, 0), 11_216));
+    all.extend(scored().into_iter().map(|t| of(t, 32)));
     all
 }

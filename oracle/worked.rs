@@ -3,7 +3,7 @@
 //! with its line. README.md has the form.
 use crate::asks::{Ask, Op, Said, LENT};
 use crate::cases::Case;
-use crate::plain::{plain, table, Branch};
+use crate::plain::{plain, table, version, Branch, Carried};
 use std::collections::HashMap;
 use std::str::FromStr;
 
@@ -46,19 +46,46 @@ fn strange<T>(what: &str, words: &[&str]) -> Read<T> {
     Err(format!("{what} cannot be '{}'", words.join(" ")))
 }
 
+/// What a row carries, in words: `weight 5`, or `kind 0 count 5`. By `kinds from 0 count 5` each row has the kind after
+/// that of the row before it, and row 0 has kind 0.
+fn carried(words: &[&str], at: u16) -> Read<Carried> {
+    match words {
+        ["weight", w] => Ok(Carried::Weight(number(w)?)),
+        ["kind", k, "count", c] => Ok(Carried::Cells(number(k)?, number(c)?)),
+        ["kinds", "from", k, "count", c] => Ok(Carried::Cells(number::<u16>(k)? + at, number(c)?)),
+        other => strange("what a row carries", other),
+    }
+}
+
+/// A row: `0 1 4 5`, with its weight, or `0 1 4 0 5`, with kind and count.
+fn row(words: &[&str]) -> Read<Branch> {
+    match words {
+        [a, b, l, w] => Ok((number(a)?, number(b)?, number(l)?, Carried::Weight(number(w)?))),
+        [a, b, l, k, c] => Ok((number(a)?, number(b)?, number(l)?, Carried::Cells(number(k)?, number(c)?))),
+        other => strange("a row", other),
+    }
+}
+
 /// A net's rows: one, or many of one shape.
 fn rows(line: &str) -> Read<Vec<Branch>> {
     Ok(match words(line)[..] {
-        ["chain", "of", n, "nodes", "length", l, "weight", w] => {
-            (1..number(n)?).map(|x| Ok((x - 1, x, number(l)?, number(w)?))).collect::<Read<_>>()?
+        ["chain", "of", n, "nodes", "length", l, ref rest @ ..] => {
+            (1..number(n)?).map(|x| Ok((x - 1, x, number(l)?, carried(rest, x - 1)?))).collect::<Read<_>>()?
         }
-        ["star", "of", n, "nodes", "length", l, "weight", w] => {
-            (1..number(n)?).map(|x| Ok((0, x, number(l)?, number(w)?))).collect::<Read<_>>()?
+        ["star", "of", n, "nodes", "length", l, ref rest @ ..] => {
+            (1..number(n)?).map(|x| Ok((0, x, number(l)?, carried(rest, x - 1)?))).collect::<Read<_>>()?
         }
-        [k, "times", a, b, l, w] => vec![(number(a)?, number(b)?, number(l)?, number(w)?); number(k)?],
-        [a, b, l, w] => vec![(number(a)?, number(b)?, number(l)?, number(w)?)],
-        ref other => return strange("a row", other),
+        [k, "times", ref rest @ ..] => vec![row(rest)?; number(k)?],
+        ref other => vec![row(other)?],
     })
+}
+
+/// All rows of a net carry the same: weights, or kinds and counts.
+fn alike(net: &[Branch]) -> Read<()> {
+    if net.iter().any(|row| version(&[*row]) != version(net)) {
+        return Err("rows with a weight and rows with kind and count make no table".to_string());
+    }
+    Ok(())
 }
 
 /// A table's bytes, and how many rows its net has: the net, then what is said of it and what of the bytes.
@@ -67,7 +94,7 @@ fn table_of(line: &str, nets: &HashMap<String, Vec<Branch>>) -> Read<(Vec<u8>, u
     let mut net: Vec<Branch> = match all[0][..] {
         [name] => nets.get(name).ok_or(format!("no net is called {name}"))?.clone(),
         ["joins", ref pairs @ ..] => {
-            pairs.iter().map(|p| ends(p).map(|(a, b)| (a, b, 0, 0))).collect::<Read<_>>()?
+            pairs.iter().map(|p| ends(p).map(|(a, b)| (a, b, 0, Carried::Weight(0)))).collect::<Read<_>>()?
         }
         ref other => return strange("a net", other),
     };
@@ -76,19 +103,19 @@ fn table_of(line: &str, nets: &HashMap<String, Vec<Branch>>) -> Read<(Vec<u8>, u
         match part[..] {
             ["bound", b] => bound = number(b)?,
             ["nodes", n] => nodes = number(n)?,
-            ["length", l, "weight", w] => {
-                for row in net.iter_mut() {
-                    *row = (row.0, row.1, number(l)?, number(w)?);
+            ["length", l, ref rest @ ..] => {
+                for (at, row) in net.iter_mut().enumerate() {
+                    *row = (row.0, row.1, number(l)?, carried(rest, at as u16)?);
                 }
             }
-            ["row", r, "is", a, b, l, w] => {
-                let at = number::<usize>(r)?;
-                *net.get_mut(at).ok_or("no such row")? = (number(a)?, number(b)?, number(l)?, number(w)?);
+            ["row", r, "is", ref rest @ ..] => {
+                *net.get_mut(number::<usize>(r)?).ok_or("no such row")? = row(rest)?;
             }
             ["byte", ..] | ["cut", ..] | ["then", ..] => {}
             ref other => return strange("what is said of a table", other),
         }
     }
+    alike(&net)?;
     let mut t = table(nodes, bound, &net);
     for part in &all[1..] {
         match part[..] {
@@ -127,6 +154,7 @@ fn ask(text: &str) -> Read<Ask> {
         ["row", "part", r] => Ask { x: number(r)?, ..of(Op::RowPart) },
         ["next", "row", r] => Ask { x: number(r)?, ..of(Op::NextRow) },
         ["first", "row"] => of(Op::FirstRow),
+        ["row", r] => Ask { x: number(r)?, ..of(Op::Row) },
         ["accept"] => of(Op::Accept),
         ["pair", a, b] => Ask { a: number(a)?, b: number(b)?, ..of(Op::Pair) },
         ["heaviest"] => of(Op::Heaviest),
@@ -151,11 +179,15 @@ fn listed(row: &[&str]) -> Read<Vec<u8>> {
     Ok(bytes)
 }
 
-/// A row of a table as its 12 bytes, from `0-1 4 5`.
+/// A row of a table as its 12 bytes, from `0-1 4 5` or `0-1 4 kind 0 count 5`.
 fn part(row: &[&str]) -> Read<Vec<u8>> {
-    let [pair, length, weight] = row else { return strange("a part", row) };
+    let (pair, length, last) = match row {
+        [pair, length, weight] => (pair, length, Carried::Weight(number(weight)?)),
+        [pair, length, rest @ ..] => (pair, length, carried(rest, 0)?),
+        other => return strange("a part", other),
+    };
     let (a, b) = ends(pair)?;
-    Ok(table(0, 0, &[(a, b, number(length)?, number(weight)?)])[12..].to_vec())
+    Ok(table(0, 0, &[(a, b, number(length)?, last)])[12..].to_vec())
 }
 
 fn wide(bytes: Vec<u8>) -> Option<Vec<u16>> {
@@ -189,12 +221,12 @@ fn said(ask: &Ask, text: &str, marks: &[u16]) -> Read<Said> {
             ["length", l, "weight", w, "hops", h] => fine(numbers(&[l, w, h]), None),
             _ => strange("length, weight and hops", one),
         },
-        (Op::Heaviest | Op::HeaviestExact, [one]) => match one[..] {
+        (Op::Row | Op::Heaviest | Op::HeaviestExact, [one]) => match one[..] {
             [pair, "length", l, "weight", w] => {
                 let (a, b) = ends(pair)?;
                 fine(numbers(&[&a.to_string(), &b.to_string(), l, w]), None)
             }
-            _ => strange("a run", one),
+            _ => strange("two nodes, length and weight", one),
         },
         (Op::Listing | Op::ListingExact, [found @ .., left]) => {
             let found: &[Vec<&str>] = if found == [["nothing"]] { &[] } else { found };
@@ -304,7 +336,9 @@ pub fn read() -> Read<Vec<Worked>> {
             net = None;
             all.push(Worked::new(text));
         } else if let Some(name) = &net {
-            nets.get_mut(name).unwrap().extend(rows(&line).map_err(told)?);
+            let net = nets.get_mut(name).unwrap();
+            net.extend(rows(&line).map_err(told)?);
+            alike(net).map_err(told)?;
         } else {
             all.last_mut().ok_or(told("no case yet".to_string()))?.take(at, &line, &nets).map_err(told)?;
         }

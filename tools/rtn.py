@@ -2,14 +2,18 @@
 import struct
 import sys
 
-MOST_NODES, MOST = 4096, 1_000_000
-HEADER, ROW = struct.Struct("<3sHHBI"), struct.Struct("<HHIi")
+MOST_NODES, MOST, MOST_COUNT = 4096, 1_000_000, 20_000
+HEADER = struct.Struct("<3sHHBI")
+# A row by the table's version: node, node, length, and then weight, or kind and count.
+ROWS = {1: struct.Struct("<HHIi"), 2: struct.Struct("<HHIHH")}
+# What each kind scores: from 24 on filler, from 32 on blocked ground.
+SCORES = [1, 2, 2, 3, 3, 4, 4, 5, 6, 6, 8, 8, 10, 10, 12, 12, 14, 14, 16, 16, 18, 20, 22, 24] + 8 * [0] + 32 * [-50]
 
 # The refusals that a table itself can get, in README.md's words.
 REFUSALS = {
     1: "under 12 bytes",
     2: "mark not RTN",
-    3: "version not 1",
+    3: "version neither 1 nor 2",
     4: "n is 0 or above 4,096",
     5: "reserved byte not 0",
     6: "size not 12 × n",
@@ -20,6 +24,8 @@ REFUSALS = {
     11: "ring: row whose ends earlier rows already join",
     12: "no ring, yet some node isn't joined to node 0",
     16: "no pair within the bound",
+    22: "unknown kind",
+    23: "count above 20,000",
 }
 
 
@@ -28,8 +34,9 @@ class Bad(Exception):
 
 
 def pack(rows, bound):
-    """The table of these rows (node, node, length, weight); it has one node more than rows."""
-    return HEADER.pack(b"RTN", 1, len(rows) + 1, 0, bound) + b"".join(ROW.pack(*row) for row in rows)
+    """The table of these rows, of version 2 where they have a kind and a count; it has one node more than rows."""
+    version = 2 if rows and len(rows[0]) == 5 else 1
+    return HEADER.pack(b"RTN", version, len(rows) + 1, 0, bound) + b"".join(ROWS[version].pack(*row) for row in rows)
 
 
 def unpack(table):
@@ -37,12 +44,17 @@ def unpack(table):
     if len(table) < HEADER.size:
         raise Bad(REFUSALS[1])
     mark, version, nodes, reserved, bound = HEADER.unpack_from(table)
-    good = {2: mark == b"RTN", 3: version == 1, 4: 1 <= nodes <= MOST_NODES, 5: reserved == 0}
+    good = {2: mark == b"RTN", 3: version in ROWS, 4: 1 <= nodes <= MOST_NODES, 5: reserved == 0}
     good[6] = len(table) == 12 * nodes
     for number in good:
         if not good[number]:
             raise Bad(REFUSALS[number])
-    return bound, list(ROW.iter_unpack(table[HEADER.size:]))
+    return bound, list(ROWS[version].iter_unpack(table[HEADER.size:]))
+
+
+def weight(row):
+    """What a good row of either version weighs."""
+    return row[3] if len(row) == 4 else row[4] * SCORES[row[3]]
 
 
 def read(path, most=-1):

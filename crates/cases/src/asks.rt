@@ -10,6 +10,7 @@ use listing::Listed;
 use pair::PairAnswer;
 use spines::HeadsAnswer;
 use table::Opening;
+use table::Row;
 use tree::Acceptance;
 
 fn opened(o: Opening) -> Answer {
@@ -23,6 +24,27 @@ fn opened(o: Opening) -> Answer {
             weight: 4,
         },
         Opening::Opened { nodes, bound } => say::fine(2, nodes as u64, bound as u64),
+    }
+}
+
+// A signed cast is proved by hand; in a function of its own that takes one line.
+fn wide(weight: i32) -> i64 {
+    weight as i64
+}
+
+fn decoded(r: Row) -> Answer {
+    Answer {
+        number: 0,
+        row: 0,
+        ring: 0,
+        fields: [
+            r.a as u64,
+            r.b as u64,
+            r.length as u64,
+            pages::raised(wide(r.weight)),
+        ],
+        many: 4,
+        weight: 3,
     }
 }
 
@@ -115,7 +137,8 @@ fn of_table(s: &[u8], q: Ask) {
         2 => say::line(opened(table::examine(s))),
         3 => say::bytes(say::fine(0, 0, 0), table::row_part(s, row), shown),
         4 => say::line(say::fine(1, table::next_row(s, row) as u64, 0)),
-        _ => say::bytes(say::fine(0, 0, 0), table::first_row(s), shown),
+        5 => say::bytes(say::fine(0, 0, 0), table::first_row(s), shown),
+        _ => say::line(decoded(table::row_at(s, row))),
     }
 }
 

@@ -1,5 +1,5 @@
 // What an operation gave, as the eight numbers that C gets: number, row, ring, the operation's fields in order, zeros.
-// One function for each kind of answer; each returns the refusal's number, 0 where nothing is refused.
+// One function for each sort of answer; each returns the refusal's number, 0 where nothing is refused.
 mod answer;
 
 ghost use mathlib.Core.Path.{_≡_};

@@ -2,6 +2,7 @@
 -- and how an operation that begins with `examine` goes on where nothing is refused.
 use mathlib.Core.Path.{_≡_, refl, sym, ap, _∙_}
 use mathlib.Core.List.{List, [], _∷_}
+use mathlib.Core.Logic.{_⊎_, inl, inr}
 use Prim.Native.Nat.{ℕ, _+_, _-_, _*_, _≤_, _<_}
 use native.Mathlib.Omega.{arith}
 use lib.ListN.{length, take}
@@ -10,13 +11,14 @@ use Rattle.table.specs.Bytes.{byteAt}
 use Rattle.table.specs.Refuse.{refused, passed, fine, Only}
 use Rattle.table.specs.Signed.{InRange}
 use Rattle.table.specs.Header.{Header, Lettered, versionOf, nodesOf, boundOf}
-use Rattle.table.specs.Row.{rowAt, Stands}
+use Rattle.table.specs.Row.{rowAt, kindAt, countAt, Stands}
 use Rattle.table.specs.Examine.{RowNumber, RowsTested, Tested}
 use Rattle.table.specs.Opens.{openingRefusal, Opens, Examines}
 use Rattle.table.specs.declared.Row.{Row}
 use Rattle.table.specs.declared.Refusal.{Refusal}
 use Rattle.table.specs.declared.Opening.{Opening}
 use Rattle.table.specs.declared.Opening.the-variants.{Opened, Refused}
+use Rattle.table.proofs.Weights.{weight-good}
 use Rattle.table.proofs.Refusals.{
   past,
   past-rows,
@@ -33,19 +35,23 @@ use Rattle.table.proofs.Refusals.{
 pub record Headed (s : List ℕ) : Type 0 where
   pub long : 12 ≤ length s
   pub letters : Lettered s
-  pub version : versionOf s ≡ 1
+  pub version : (versionOf s ≡ 1) ⊎ (versionOf s ≡ 2)
   pub some : 1 ≤ nodesOf s
   pub few : nodesOf s ≤ 4096
   pub reserved : byteAt s 7 ≡ 0
   pub size : length s ≡ 12 * nodesOf s
 
--- what a row that is not refused has
+-- what a row that is not refused has, whichever version gave its weight
 pub record Good (n : ℕ) (q : Row) : Type 0 where
   pub first : q .a < n
   pub second : q .b < n
   pub apart : q .a ≡ q .b → ⊥
   pub long : q .length ≤ 1000000
   pub weight-within : InRange (q .weight)
+
+-- the numbers that a table's own tests give: 1 to 10, 22, 23, and 0 where they refuse nothing
+abbrev pub Own : ℕ → Type 0
+Own k = (k ≤ 10) ⊎ ((22 ≤ k) × (k ≤ 23))
 
 -- what an accepted table has: its rows stand and are good
 pub record Accepted (s : List ℕ) (n b : ℕ) : Type 0 where
@@ -63,15 +69,15 @@ module _ {A : Type 0} (refuse : ℕ → ℕ → A) {s : List ℕ} {rest : A → 
       (passed (h .version) (passed (h .some, h .few) (passed (h .reserved) (passed (h .size) r)))))
 
   -- an outcome that is none of these refusals comes of a good header
-  pub header-past : ((k r : ℕ) → (k ≡ 0 → ⊥) → k ≤ 10 → refuse k r ≡ x → ⊥) → Header A refuse s rest x
+  pub header-past : ((k r : ℕ) → (k ≡ 0 → ⊥) → Own k → refuse k r ≡ x → ⊥) → Header A refuse s rest x
       → Headed s × rest x
   header-past n p =
-      let a = past (n 1 0 (λ e. omega arith) (omega arith)) p in
-      let b = past (n 2 0 (λ e. omega arith) (omega arith)) (a .1) in
-      let c = past (n 3 0 (λ e. omega arith) (omega arith)) (b .1) in
-      let d = past (n 4 0 (λ e. omega arith) (omega arith)) (c .1) in
-      let e = past (n 5 0 (λ e. omega arith) (omega arith)) (d .1) in
-      let f = past (n 6 0 (λ e. omega arith) (omega arith)) (e .1) in (
+      let a = past (n 1 0 (λ e. omega arith) (inl (omega arith))) p in
+      let b = past (n 2 0 (λ e. omega arith) (inl (omega arith))) (a .1) in
+      let c = past (n 3 0 (λ e. omega arith) (inl (omega arith))) (b .1) in
+      let d = past (n 4 0 (λ e. omega arith) (inl (omega arith))) (c .1) in
+      let e = past (n 5 0 (λ e. omega arith) (inl (omega arith))) (d .1) in
+      let f = past (n 6 0 (λ e. omega arith) (inl (omega arith))) (e .1) in (
         record {
           long = a .0;
           letters = b .0;
@@ -106,34 +112,35 @@ header-map f refuse s g p =
     (record { long = a; letters = b; version = c; some = d .0; few = d .1; reserved = e; size = h })))))))
     p
 
--- a table whose header and rows are good: 1 to 10 refuse nothing
+-- a table whose header and rows are good: 1 to 10, 22 and 23 refuse nothing
 abbrev pub GoodTable : List ℕ → Type 0
 GoodTable s = Examines s (Opened (nodesOf s) (boundOf s))
 
 abbrev pub GoodRows : List ℕ → Type 0
-GoodRows s = (r : ℕ) → r < nodesOf s - 1 → RowNumber (nodesOf s) (rowAt s r) 0
+GoodRows s = (r : ℕ) → r < nodesOf s - 1 → RowNumber (nodesOf s) s r 0
 
 pub good-table : {s : List ℕ} → Headed s → GoodRows s → GoodTable s
 good-table h rows = past-header openingRefusal h (fine rows refl)
 
--- a row's own refusals are 7 to 10
-row-small : (n : ℕ) (q : Row) (k : ℕ) → RowNumber n q k → k ≤ 10
-row-small n q k (refused c) = omega arith
-row-small n q k (passed a (refused c)) = omega arith
-row-small n q k (passed a (passed b (refused c))) = omega arith
-row-small n q k (passed a (passed b (passed d (refused c)))) = omega arith
-row-small n q k (passed a (passed b (passed d (passed e f)))) = omega arith
+row-own : (n : ℕ) (s : List ℕ) (r k : ℕ) → RowNumber n s r k → Own k
+row-own n s r k (refused c) = inl (omega arith)
+row-own n s r k (passed _ (refused c)) = inl (omega arith)
+row-own n s r k (passed _ (passed _ (refused c))) = inl (omega arith)
+row-own n s r k (passed _ (passed _ (passed _ (refused c)))) = inl (omega arith)
+row-own n s r k (passed _ (passed _ (passed _ (passed _ (refused c))))) = inr (omega arith, omega arith)
+row-own n s r k (passed _ (passed _ (passed _ (passed _ (passed _ (refused c)))))) = inr (omega arith, omega arith)
+row-own n s r k (passed _ (passed _ (passed _ (passed _ (passed _ (passed _ e)))))) = inl (omega arith)
 
 module _ {A : Type 0} (refuse : ℕ → ℕ → A) (s : List ℕ) {rest : A → Type 0} {x : A} where
-  both-good : ((k r : ℕ) → (k ≡ 0 → ⊥) → k ≤ 10 → refuse k r ≡ x → ⊥) → Tested A refuse s rest x
+  both-good : ((k r : ℕ) → (k ≡ 0 → ⊥) → Own k → refuse k r ≡ x → ⊥) → Tested A refuse s rest x
       → Headed s × GoodRows s × rest x
   both-good n p =
       let h = header-past refuse {s = s} n p in
-      let q = past-rows (λ k r z is. n k r z (row-small (nodesOf s) (rowAt s r) k is)) (h .1) in
+      let q = past-rows (λ k r z is. n k r z (row-own (nodesOf s) s r k is)) (h .1) in
       (h .0, q .0, q .1)
 
-  -- an outcome that is none of 1 to 10 comes of a good table
-  pub tested-past : ((k r : ℕ) → (k ≡ 0 → ⊥) → k ≤ 10 → refuse k r ≡ x → ⊥) → Tested A refuse s rest x
+  -- an outcome that is none of these refusals comes of a good table
+  pub tested-past : ((k r : ℕ) → (k ≡ 0 → ⊥) → Own k → refuse k r ≡ x → ⊥) → Tested A refuse s rest x
       → GoodTable s × rest x
   tested-past n p = let t = both-good n p in (good-table (t .0) (t .1), t .2)
 
@@ -143,7 +150,7 @@ pub tested-map : {A B : Type 0} (f : A → B) (refuse : ℕ → ℕ → A) (s : 
 tested-map f refuse s g p =
     header-map f refuse s (λ h. first-bad-map f (λ rows. g (good-table h rows))) p
 
--- what holds of each refusal of 1 to 10, whose row is below 4,096, and of what follows, holds of the outcome
+-- what holds of each of a table's own refusals, whose row is below 4,096, and of what follows, holds of the outcome
 pub by-tested : {A : Type 0} (C : A → Type 0) (refuse : ℕ → ℕ → A) (s : List ℕ) {rest : A → Type 0}
     → ((k r : ℕ) → r < 4096 → C (refuse k r)) → (nodesOf s ≤ 4096 → (x : A) → rest x → C x) → {x : A}
     → Tested A refuse s rest x → C x
@@ -173,7 +180,7 @@ nothing-found e = omega (arith, ap taken e)
     taken (Opened n b) = 1
     taken (Refused w) = 0
 
-unnumbered : {n b : ℕ} (k r : ℕ) → (k ≡ 0 → ⊥) → k ≤ 10 → openingRefusal k r ≡ Opened n b → ⊥
+unnumbered : {n b : ℕ} (k r : ℕ) → (k ≡ 0 → ⊥) → Own k → openingRefusal k r ≡ Opened n b → ⊥
 unnumbered k r _ _ e = nothing-found e
 
 pub opened : (s : List ℕ) (n b : ℕ) → Opens s (Opened n b)
@@ -191,18 +198,29 @@ pub opened-goes : (s : List ℕ) (n b : ℕ) (o : Opening) → Opens s (Opened n
     → RowsTested Opening openingRefusal s n (λ x. x ≡ Opened n b) o → Examines s o
 opened-goes s n b o p q = let h = opened s n b p in past-header openingRefusal {s = s} (h .0) (rw (h .1, h .2) at q)
 
--- what a row numbered 0 has, and such a row is numbered 0
-pub good-number : (n : ℕ) (q : Row) → Good n q → RowNumber n q 0
-good-number n q g =
-    passed (g .first, g .second) (passed (g .apart) (passed (g .long) (passed (g .weight-within) refl)))
-
-pub good : (n : ℕ) (q : Row) → RowNumber n q 0 → Good n q
-good n q p =
+-- what a row numbered 0 has; and such a row is numbered 0, where its kind and count are good too if it is of version 2
+pub good : (n : ℕ) (s : List ℕ) (r : ℕ) → RowNumber n s r 0 → Good n (rowAt s r)
+good n s r p =
     let a = past (λ e. omega (arith, e)) p in
     let b = past (λ e. omega (arith, e)) (a .1) in
     let c = past (λ e. omega (arith, e)) (b .1) in
     let d = past (λ e. omega (arith, e)) (c .1) in
-    record { first = a .0 .0; second = a .0 .1; apart = b .0; long = c .0; weight-within = d .0 }
+    let e = past (λ e. omega (arith, e)) (d .1) in
+    let f = past (λ e. omega (arith, e)) (e .1) in
+    record {
+      first = a .0 .0;
+      second = a .0 .1;
+      apart = b .0;
+      long = c .0;
+      weight-within = weight-good s r (d .0) (f .0);
+    }
+
+pub good-number : (n : ℕ) (s : List ℕ) (r : ℕ) → Good n (rowAt s r)
+    → (versionOf s ≡ 2 → (kindAt s r < 64) × (countAt s r ≤ 20000)) → RowNumber n s r 0
+good-number n s r g k =
+    passed (g .first, g .second)
+    (passed (g .apart)
+    (passed (g .long) (passed (λ _. g .weight-within) (passed (λ e. k e .0) (passed (λ e. k e .1) refl)))))
 
 pub accepted : (s : List ℕ) (n b : ℕ) → Examines s (Opened n b) → Accepted s n b
 accepted s n b p =
@@ -213,7 +231,7 @@ accepted s n b p =
       nodes = e;
       bound = ap boundIn (t .2);
       stands = λ r l. omega (arith, t .0 .size);
-      rows = λ r l. rw e (good (nodesOf s) (rowAt s r) (t .1 r (omega arith)));
+      rows = λ r l. rw e (good (nodesOf s) s r (t .1 r (omega arith)));
     }
 
 -- how an operation that begins with `examine` goes on where nothing is refused
@@ -223,15 +241,16 @@ passed-on refuse s n b p r =
     let t = both-good openingRefusal s unnumbered p in
     past-header refuse (t .0) (fine (t .1) r)
 
-pub row-number-only : (n : ℕ) (q : Row) → Only (RowNumber n q)
-row-number-only n q = unless-only (unless-only (unless-only (unless-only (λ x y p r. p ∙ sym r))))
+pub row-number-only : (n : ℕ) (s : List ℕ) (r : ℕ) → Only (RowNumber n s r)
+row-number-only n s r =
+    unless-only (unless-only (unless-only (unless-only (unless-only (unless-only (λ x y p q. p ∙ sym q))))))
 
 -- of a good table an outcome is as the rest says
 pub tested-rest : {A : Type 0} (refuse : ℕ → ℕ → A) (s : List ℕ) {rest : A → Type 0} {x : A} → GoodTable s
     → Tested A refuse s rest x → rest x
 tested-rest refuse s g p =
     let t = both-good openingRefusal s unnumbered g in
-    settled-rows (λ i. row-number-only (nodesOf s) (rowAt s i)) (t .1) (header-rest refuse (t .0) p)
+    settled-rows (row-number-only (nodesOf s) s) (t .1) (header-rest refuse (t .0) p)
 
 -- how a function that begins with `open_table` hands a refusal on
 pub refused-header : {A : Type 0} (refuse : ℕ → ℕ → A) {rest : A → Type 0} (s : List ℕ) (w : Refusal)

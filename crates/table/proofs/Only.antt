@@ -2,12 +2,10 @@
 -- part, a row number and a row by whether the row stands there.
 use mathlib.Core.Path.{_≡_, sym, _∙_}
 use mathlib.Core.List.{List, []}
-use Prim.Native.Nat.{ℕ, _+_, _*_, _≤_, _<_}
+use Prim.Native.Nat.{ℕ, _+_, _*_, _<_}
 use native.Mathlib.Decide.{decLe, decLt}
 use native.Mathlib.Omega.{arith}
 use lib.ListN.{length}
-use lib.Dec.{leb→le, le→leb}
-use lib.IntN.{ℤ, pos, negsuc}
 use Rattle.table.specs.Refuse.{Only}
 use Rattle.table.specs.Header.{Header, nodesOf}
 use Rattle.table.specs.Signed.{InRange}
@@ -17,6 +15,7 @@ use Rattle.table.specs.work.Lift.{LiftedOf, LoweredOf}
 use Rattle.table.specs.Examine.{Tested}
 use Rattle.table.specs.Opens.{openingRefusal, Opens, Examines}
 use Rattle.table.proofs.Refusals.{unless-only, first-bad-only}
+use Rattle.table.proofs.Range.{within?}
 use Rattle.table.proofs.Accepted.{row-number-only}
 use Rattle.table.proofs.Lift.{diff-only, lift-only}
 
@@ -27,7 +26,7 @@ header-only refuse s o = unless-only (unless-only (unless-only (unless-only (unl
 pub tested-only : {A : Type 0} (refuse : ℕ → ℕ → A) (s : List ℕ) {rest : A → Type 0} → Only rest
     → Only (Tested A refuse s rest)
 tested-only refuse s o =
-    header-only refuse s (first-bad-only (λ i. row-number-only (nodesOf s) (rowAt s i)) o)
+    header-only refuse s (first-bad-only (row-number-only (nodesOf s) s) o)
 
 pub open-only : (s : List ℕ) → Only (Opens s)
 open-only s = header-only openingRefusal s (λ x y p q. p ∙ sym q)
@@ -55,19 +54,7 @@ next-only s r x y p q = by-row s r (λ h. p .moves h ∙ sym (q .moves h)) (λ h
 pub row-only : (s : List ℕ) (r : ℕ) → Only (RowOf s r)
 row-only s r x y p q = by-row s r (λ h. p .there h ∙ sym (q .there h)) (λ h. p .none h ∙ sym (q .none h))
 
--- so does a weight's range
-within? : (z : ℤ) → Dec (InRange z)
-within? (pos n) = pick (decLe n 1000000)
-  where
-    pick : Dec (n ≤ 1000000) → Dec (InRange (pos n))
-    pick (yes h) = yes (record { le = tt }, record { le = le→leb n 1000000 h })
-    pick (no h) = no (λ w. h (leb→le n 1000000 (w .1 .le)))
-within? (negsuc n) = pick (decLe n 999999)
-  where
-    pick : Dec (n ≤ 999999) → Dec (InRange (negsuc n))
-    pick (yes h) = yes (record { le = le→leb n 999999 h }, record { le = tt })
-    pick (no h) = no (λ w. h (leb→le n 999999 (w .0 .le)))
-
+-- by whether its weight is in range too (`within?`)
 pub lifted-only : (s : List ℕ) (r : ℕ) → Only (LiftedOf s r)
 lifted-only s r x y p q =
     by-row s r (λ h. pick h (within? (rowAt s r .weight))) (λ h. p .none (λ k w. h k) ∙ sym (q .none (λ k w. h k)))

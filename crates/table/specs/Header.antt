@@ -2,6 +2,7 @@
 -- in order.
 use mathlib.Core.Path.{_≡_}
 use mathlib.Core.List.{List}
+use mathlib.Core.Logic.{_⊎_}
 use Prim.Native.Nat.{ℕ, _*_, _≤_}
 use lib.ListN.{length}
 use Rattle.table.specs.Refuse.{Unless}
@@ -25,7 +26,7 @@ abbrev pub Header : (A : Type 0) → (ℕ → ℕ → A) → List ℕ → (A →
 Header A refusal s rest =
     Unless A (refusal 1 0) (12 ≤ length s)
     (Unless A (refusal 2 0) (Lettered s)
-    (Unless A (refusal 3 0) (versionOf s ≡ 1)
+    (Unless A (refusal 3 0) ((versionOf s ≡ 1) ⊎ (versionOf s ≡ 2))
     (Unless A (refusal 4 0) ((1 ≤ nodesOf s) × (nodesOf s ≤ 4096))
     (Unless A (refusal 5 0) (byteAt s 7 ≡ 0)
     (Unless A (refusal 6 0) (length s ≡ 12 * nodesOf s)

@@ -7,5 +7,6 @@ pub mod Opens
 pub mod Reader
 pub mod Refuse
 pub mod Row
+pub mod Scores
 pub mod Signed
 pub mod work

@@ -14,6 +14,6 @@ openingRefusal k r = Refused (record { number = k; row = r })
 abbrev pub Opens : List ℕ → Opening → Type 0
 Opens s = Header Opening openingRefusal s (λ x. x ≡ Opened (nodesOf s) (boundOf s))
 
--- examining: 1 to 10, then n and B
+-- examining: 1 to 10, 22 and 23, then n and B
 abbrev pub Examines : List ℕ → Opening → Type 0
 Examines s = Tested Opening openingRefusal s (λ x. x ≡ Opened (nodesOf s) (boundOf s))

@@ -1,12 +1,16 @@
 -- Rows, numbered from 0: where the 12 bytes of a row stand, what they say, and what a reader hands back there.
 use mathlib.Core.Path.{_≡_}
+use mathlib.Core.Bool.{cond}
 use mathlib.Core.List.{List, []}
 use Prim.Native.Nat.{ℕ, _+_, _*_, _≤_}
+use lib.Dec.{eqb}
 use lib.ListN.{length, take, drop}
-use lib.IntN.{pos}
+use lib.IntN.{ℤ, pos, _*ℤ_}
 use mir.Syntax.{w32}
 use mir.Val.{toZ}
 use Rattle.table.specs.Bytes.{u16At, u32At}
+use Rattle.table.specs.Header.{versionOf}
+use Rattle.table.specs.Scores.{scoreOf}
 use Rattle.table.specs.declared.Row.{Row}
 
 -- 12 bytes stand from place 12 + 12 × r on
@@ -26,14 +30,26 @@ pub record NextOf (s : List ℕ) (r q : ℕ) : Type 0 where
   pub moves : Stands s r → q ≡ r + 1
   pub stays : (Stands s r → ⊥) → q ≡ r
 
--- a row's four numbers: node, node, length, and the weight in two's complement
+-- the last four bytes of a row of version 2: a kind and a count
+abbrev pub kindAt : List ℕ → ℕ → ℕ
+kindAt s r = u16At s (20 + 12 * r)
+
+abbrev pub countAt : List ℕ → ℕ → ℕ
+countAt s r = u16At s (22 + 12 * r)
+
+-- which weigh count times score; in a table of any other version they are the weight, in two's complement
+abbrev pub weightAt : List ℕ → ℕ → ℤ
+weightAt s r =
+    cond (eqb (versionOf s) 2) (pos (countAt s r) *ℤ scoreOf (kindAt s r)) (toZ w32 (u32At s (20 + 12 * r)))
+
+-- a row's four numbers: node, node, length, weight
 abbrev pub rowAt : List ℕ → ℕ → Row
 rowAt s r =
     record {
       a = u16At s (12 + 12 * r);
       b = u16At s (14 + 12 * r);
       length = u32At s (16 + 12 * r);
-      weight = toZ w32 (u32At s (20 + 12 * r));
+      weight = weightAt s r;
     }
 
 abbrev pub noRow : Row

@@ -1,7 +1,8 @@
-// The branch table, version 1: bytes to header and rows. Refusals 1 to 10, the part of a row, a decoded row and its
-// lifted weight, and the reader that holds the table. Every function takes any bytes and any number; none asks anything
-// of its caller.
+// The branch table, versions 1 and 2: bytes to header and rows. Refusals 1 to 10, 22 and 23, the part of a row, a
+// decoded row and its lifted weight, and the reader that holds the table. Every public function takes any bytes and
+// any number and asks nothing of its caller.
 ghost use mathlib.Core.Path.{_≡_};
+ghost use mathlib.Core.Bool.{true, false};
 ghost use Prim.Native.Nat.{_+_, _*_, _≤_, _<_};
 ghost use lib.ListN.{length};
 ghost use mir.Syntax.{w32};
@@ -9,11 +10,15 @@ ghost use mir.Val.{toZ};
 ghost use denote.Ref.{ptr};
 ghost use Rattle.table.specs.Bytes.{u16At, u32At};
 ghost use Rattle.table.specs.Opens.{openingRefusal, Opens, Examines};
-ghost use Rattle.table.specs.Row.{Stands, PartOf, NextOf, RowOf, rowAt};
+ghost use Rattle.table.specs.Row.{Stands, PartOf, NextOf, RowOf, weightAt};
+ghost use Rattle.table.specs.Signed.{InRange};
 ghost use Rattle.table.specs.work.Standing.{Standing};
 ghost use Rattle.table.specs.Examine.{RowNumber, RowsTested};
 ghost use Rattle.table.specs.work.Lift.{LiftedOf, LoweredOf};
 ghost use Rattle.table.specs.Reader.{HeldOf, Stepped, FirstOf};
+use crate::scores::score_of;
+
+mod scores;
 
 // What is refused, by the paper's number, and the row it names: 0 where none is named.
 pub struct Refusal {
@@ -78,7 +83,11 @@ pub fn open_table(s: &[u8]) -> Opening
     if s[2] != 78 {
         return Opening::Refused(Refusal { number: 2, row: 0 });
     }
-    if u16_at(s, 3) != 1 {
+    let version = u16_at(s, 3);
+    if version < 1 {
+        return Opening::Refused(Refusal { number: 3, row: 0 });
+    }
+    if 2 < version {
         return Opening::Refused(Refusal { number: 3, row: 0 });
     }
     let nodes = u16_at(s, 5);
@@ -146,12 +155,37 @@ fn signed(u: u32) -> i32
     -1 - m
 }
 
+// A row's weight, by the table's version.
+fn weight_at(s: &[u8], row: usize) -> i32
+    requires { ⌜ Stands (now s) row ⌝ }
+    ensures { λ r. ⌜ r ≡ weightAt (now (s .entry)) row ⌝ }
+{
+    if u16_at(s, 3) == 2 {
+        let score = score_of(u16_at(s, 20 + 12 * row));
+        let count = u16_at(s, 22 + 12 * row) as i32;
+        return count * score;
+    }
+    signed(u32_at(s, 20 + 12 * row))
+}
+
+fn in_range(weight: i32) -> bool
+    ensures { λ q. ⌜ (q ≡ true → InRange weight) × (q ≡ false → InRange weight → ⊥) ⌝ }
+{
+    if weight < -1000000 {
+        return false;
+    }
+    if 1000000 < weight {
+        return false;
+    }
+    true
+}
+
 // A row's four numbers, all 0 where the table has no such row.
 pub fn row_at(s: &[u8], row: usize) -> Row
     ensures { λ q. ⌜ RowOf (now (s .entry)) row q ⌝ }
 {
     if stands(s, row) {
-        let w = signed(u32_at(s, 20 + 12 * row));
+        let w = weight_at(s, row);
         return Row {
             a: u16_at(s, 12 + 12 * row),
             b: u16_at(s, 14 + 12 * row),
@@ -177,18 +211,14 @@ pub const SUM_END: u64 = 2 * SUM_LIFT;
 
 const BELOW_SUM_LIFT: u64 = SUM_LIFT - 1;
 
-// A row's weight lifted by 1,000,000, read straight from its bytes; 0 where there is no such row or its weight is out
-// of range.
+// A row's weight lifted by 1,000,000; 0 where there is no such row or its weight is out of range.
 pub fn lifted_at(s: &[u8], row: usize) -> u32
     ensures { λ q. ⌜ LiftedOf (now (s .entry)) row q ⌝ }
 {
     if stands(s, row) {
-        let u = u32_at(s, 20 + 12 * row);
-        if u <= 1000000 {
-            return u + ROW_LIFT;
-        }
-        if 4293967296 <= u {
-            return u - 4293967296;
+        let weight = weight_at(s, row);
+        if in_range(weight) {
+            return (weight + ROW_LIFT as i32) as u32;
         }
     }
     0
@@ -208,10 +238,10 @@ pub fn lowered(x: u64) -> i64
     (x - SUM_LIFT) as i64
 }
 
-// The first of 7 to 10 that a row meets, or 0. The weight is tested on its bits: nothing is negated.
+// The first of 7 to 10, 22 and 23 that a row meets, or 0.
 fn row_number(s: &[u8], r: usize, nodes: u16) -> u8
     requires { ⌜ Stands (now s) r ⌝ }
-    ensures { λ k. ⌜ RowNumber nodes (rowAt (now (s .entry)) r) k ⌝ }
+    ensures { λ k. ⌜ RowNumber nodes (now (s .entry)) r k ⌝ }
 {
     let a = u16_at(s, 12 + 12 * r);
     let b = u16_at(s, 14 + 12 * r);
@@ -228,11 +258,16 @@ fn row_number(s: &[u8], r: usize, nodes: u16) -> u8
     if 1000000 < length {
         return 9;
     }
-    let weight = u32_at(s, 20 + 12 * r);
-    if weight <= 1000000 {
+    if u16_at(s, 3) == 2 {
+        if 64 <= u16_at(s, 20 + 12 * r) {
+            return 22;
+        }
+        if 20000 < u16_at(s, 22 + 12 * r) {
+            return 23;
+        }
         return 0;
     }
-    if 4293967296 <= weight {
+    if in_range(weight_at(s, r)) {
         return 0;
     }
     10
@@ -244,9 +279,9 @@ fn rows(s: &[u8], nodes: u16, bound: u32) -> Opening
     ensures { λ o. ⌜ RowsTested Opening openingRefusal (now (s .entry)) nodes
         (λ x. x ≡ Opening.Opened nodes bound) o ⌝ }
 {
-    let count = nodes as usize;
+    let n = nodes as usize;
     let mut r: usize = 0;
-    while r + 1 < count {
+    while r + 1 < n {
         let k = row_number(s, r, nodes);
         if k != 0 {
             return Opening::Refused(Refusal { number: k, row: r });
@@ -256,7 +291,7 @@ fn rows(s: &[u8], nodes: u16, bound: u32) -> Opening
     Opening::Opened { nodes, bound }
 }
 
-// Tests 1 to 10: the header, then row by row.
+// Tests 1 to 10, 22 and 23: the header, then row by row.
 pub fn examine(s: &[u8]) -> Opening
     ensures { λ o. ⌜ Examines (now (s .entry)) o ⌝ }
 {

@@ -1,7 +1,8 @@
 -- Acceptance: from the ring test and the walk to refusals 11 and 12; what an accepted table has; how an operation that
 -- begins with 1 to 12 hands a refusal on or goes on, seen through a function or said otherwise; that two such promises
 -- give equal outcomes where what follows does, so that each allows one and refuses what acceptance does; and what the
--- numbers of such a refusal are. What 1 to 12 are is taken apart here, 1 to 10 in table's Accepted, and nowhere above.
+-- numbers of such a refusal are. What 11 and 12 are is taken apart here, a table's own refusals in table's Accepted,
+-- and nowhere above.
 use Prim.Native.Nat.{ℕ, _+_, _-_, _≤_, _<_}
 use mathlib.Core.Path.{_≡_, refl, sym, ap, _∙_}
 use mathlib.Core.Logic.{_⊎_, inl, inr, _≢_}
@@ -14,7 +15,7 @@ use Rattle.table.specs.declared.Refusal as why
 use Rattle.table.specs.declared.Opening.{Opening}
 use Rattle.table.specs.declared.Opening.the-variants as opening
 use Rattle.table.proofs.Refusals.{past, past-rows, settled, unless-only, unless-map, first-bad-map, by-unless, by-rows}
-use Rattle.table.proofs.Accepted.{GoodTable, accepted, tested-past, tested-map, tested-rest, by-tested}
+use Rattle.table.proofs.Accepted.{GoodTable, Own, accepted, tested-past, tested-map, tested-rest, by-tested}
 use Rattle.table.proofs.Accepted as table
 use Rattle.table.proofs.Only.{tested-only}
 use Rattle.net.specs.work.Forest.{Forest}
@@ -116,7 +117,7 @@ module _ (s : List ℕ) (n : ℕ) {rest : Acceptance → Type 0} where
         (g .some) (g .fit) (w .walked) h)
         p)
 
--- a refusal of 1 to 10 stays one, and an examined table goes on to 11 and 12
+-- a table's own refusal stays one, and an examined table goes on to 11 and 12
 pub refused-stays : (s : List ℕ) (w : why.Refusal) → Examines s (opening.Refused w)
     → Accepts s (acceptanceRefusal (w .number) (w .row) 0)
 refused-stays s w p = tested-map handed openingRefusal s (λ g e. absurd (table.nothing-found e)) p
@@ -287,7 +288,7 @@ by-beginning C refuse s h f p =
     ringed : {n r g : ℕ} → n ≤ 4096 → r < n - 1 → g ≤ r + 1 → Told 11 r g
     ringed few l m = record { low = omega arith; few = m; alone = λ n. absurd (n refl) }
 
--- where 11 is given, 1 to 10 refuse nothing, and the row named is the first that closes a ring, with its number
+-- where 11 is given, the table is good, and the row named is the first that closes a ring, with its number
 pub record Closer (s : List ℕ) (r g : ℕ) : Type 0 where
   pub good : GoodTable s
   pub below : r < nodesOf s - 1
@@ -304,8 +305,13 @@ module _ (s : List ℕ) where
   eleven x e t (fine all (refused c)) = absurd (omega arith)
   eleven x e t (fine all (passed w p)) = absurd (omega (arith, ap (λ (o : Acceptance). whyOf o .number) p))
 
+  -- 11 is none of the table's own numbers
+  other : (k : ℕ) → Own k → k ≢ 11
+  other k (inl l) e = omega (arith, l, e)
+  other k (inr l) e = omega (arith, l .0, e)
+
   pub closer : (r g : ℕ) → Accepts s (acceptanceRefusal 11 r g) → Closer s r g
   closer r g p =
       let t = tested-past (λ k r. acceptanceRefusal k r 0) s
-      (λ k q _ l e. omega (arith, l, ap (λ (o : Acceptance). whyOf o .number) e)) p in
+      (λ k q _ own e. other k own (ap (λ (o : Acceptance). whyOf o .number) e)) p in
       eleven (acceptanceRefusal 11 r g) refl (t .0) (t .1)

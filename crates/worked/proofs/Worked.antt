@@ -1,5 +1,6 @@
--- The claim: all starred cases of document 01, and those of Req 01 and Req 03, hold of the definitions. Each operation
--- has a test that computes and a law that what passes it holds; the list is then a computation.
+-- The claim: all starred cases of document 01, those of Req 01 and Req 03, and three of ours for Req 05, hold of the
+-- definitions. Each operation has a test that computes and a law that what passes it holds; the list is then a
+-- computation.
 use Prim.Native.Nat.{ℕ}
 use mathlib.Core.Bool.{Bool, true, false, _&&_}
 use mathlib.Core.List.{List, [], _∷_}
@@ -23,7 +24,7 @@ use Rattle.heaviest.specs.declared.HeaviestAnswer.the-variants as run
 use Rattle.listing.specs.declared.Listed.the-variants as listed
 use Rattle.pair.specs.declared.PairAnswer.the-variants as path
 use Rattle.worked.specs.Case.{Case, accept, heaviest, listing, heads, leaves, pair, claim, Holds, All}
-use Rattle.worked.specs.Cases.{net5, n5, unmarked, held, marked, crossed, lent, three, cases}
+use Rattle.worked.specs.Cases.{net5, n5, cells5, unmarked, held, marked, crossed, lent, three, cases}
 use Rattle.worked.proofs.Tests.{every, below, has, throughout, no-repeat, same}
 use Rattle.worked.proofs.Accepted.{good?, accepted?}
 use Rattle.worked.proofs.Ways.{other, met, leads, path?}
@@ -37,7 +38,7 @@ use Rattle.worked.proofs.Headed.{heads?, is-heads, leaves?, are-leaves}
 use Rattle.worked.proofs.Measured.{once, heads-of, pair?, is-pair}
 use Rattle.worked.proofs.Best.{found?, is-found, none?, is-none}
 
--- the rows of each path of N5 from a to b, the lower node first
+-- the rows of each path of N5, and of the net of its shape, from a to b, the lower node first
 unfoldable ways : List (List (List ℕ))
 ways =
     ([] ∷ (0 ∷ []) ∷ (0 ∷ 1 ∷ []) ∷ (0 ∷ 2 ∷ []) ∷ (0 ∷ 2 ∷ 3 ∷ []) ∷ [])
@@ -102,7 +103,7 @@ all-hold (c ∷ l) t = let a = both (check c) (check-all l) t in (check-holds c 
 -- Every starred case holds.
 pub cases-hold : All cases
 unfolding head-some main? main-some best many count-dec leaves-some leaf-under? leaf? child? above? some? decLt
-    decLe up by heads? leaves? pair? hangs? par headAt once heads-of check-all check cases net5 n5 unmarked held
+    decLe up by heads? leaves? pair? hangs? par headAt once heads-of check-all check cases net5 n5 cells5 unmarked held
     marked crossed lent three way ways found? none? claimed? refused? frees throughout listing? seconds firsts bytes
     row rows rising? has-entry same-entry same good? accepted? ringed? ways? path? leads met other wanted? all-pairs
     at-least? after? every below has no-repeat label relabel grows ℕ-discrete firstEnd secondEnd lengthOf weightOf

@@ -1,5 +1,6 @@
 -- The starred cases of document 01 and those that document 02, Req 01 and Req 03, gives: the small net N5 under several
--- bounds, and with a row repeated; what is asked of it, and the answers.
+-- bounds, and with a row repeated; what is asked of it, and the answers. Then, for Req 05, a net of its shape in
+-- version 2.
 use Prim.Native.Nat.{ℕ}
 use mathlib.Core.List.{List, [], _∷_, _++_}
 use lib.IntN.{pos, negsuc}
@@ -26,6 +27,16 @@ net5 a b bound =
 -- N5: the second row is (1,2)
 unfoldable pub n5 : ℕ → List ℕ
 n5 = net5 1 2
+
+-- a net of its shape in version 2: 5, 2 and 7 cells of kind 0, which scores 1, and one of kind 32, blocked ground,
+-- which scores −50
+unfoldable pub cells5 : ℕ → List ℕ
+cells5 bound =
+    (82 ∷ 84 ∷ 78 ∷ 2 ∷ 0 ∷ 5 ∷ 0 ∷ 0 ∷ bound ∷ 0 ∷ 0 ∷ 0 ∷ [])
+    ++ (0 ∷ 0 ∷ 1 ∷ 0 ∷ 4 ∷ 0 ∷ 0 ∷ 0 ∷ 0 ∷ 0 ∷ 5 ∷ 0 ∷ [])
+    ++ (1 ∷ 0 ∷ 2 ∷ 0 ∷ 3 ∷ 0 ∷ 0 ∷ 0 ∷ 0 ∷ 0 ∷ 2 ∷ 0 ∷ [])
+    ++ (1 ∷ 0 ∷ 3 ∷ 0 ∷ 6 ∷ 0 ∷ 0 ∷ 0 ∷ 0 ∷ 0 ∷ 7 ∷ 0 ∷ [])
+    ++ (3 ∷ 0 ∷ 4 ∷ 0 ∷ 2 ∷ 0 ∷ 0 ∷ 0 ∷ 32 ∷ 0 ∷ 1 ∷ 0 ∷ [])
 
 unfoldable pub unmarked : List ℕ
 unmarked = 0 ∷ 0 ∷ 0 ∷ 0 ∷ []
@@ -73,4 +84,7 @@ cases =
     ∷ claim (n5 9) marked 7 0 3 (changeRefusal marked 18 0 0)
     ∷ heaviest (n5 2) crossed (Between 3 4 2 (negsuc 2))
     ∷ accept (net5 0 1 8) (acceptanceRefusal 11 1 2)
+    ∷ heaviest (cells5 9) unmarked (Between 2 3 9 (pos 9))
+    ∷ heaviest (cells5 2) unmarked (Between 3 4 2 (negsuc 49))
+    ∷ pair (cells5 9) unmarked 2 4 (Found 11 (negsuc 40) 2)
     ∷ []

@@ -1,4 +1,4 @@
--- `marks::claim` meets its contract: a refused acceptance is handed on, and an accepted net goes on to 13.
+-- `changes::claim` meets its contract: a refused acceptance is handed on, and an accepted net goes on to 13.
 use Rattle.tree.proofs.Begins.{admitted, refused-on, passed-on}
 use Rattle.changes.specs.Change.{changeRefusal}
 use borrow.Author.Needs.{needs}

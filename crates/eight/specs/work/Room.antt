@@ -18,7 +18,7 @@ pub record Room (row ring : ℕ) : Type 0 where
   pub low : row < 4096
   pub few : ring ≤ 4096
 
--- of each kind of answer: a refusal's
+-- of each sort of answer: a refusal's
 abbrev pub AcceptanceRoom : Acceptance → Type 0
 AcceptanceRoom (acceptance.Accepted nodes bound) = Unit {0}
 AcceptanceRoom (acceptance.Refused why) = Room (why .row) (why .ring)

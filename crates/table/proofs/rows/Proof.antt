@@ -2,7 +2,6 @@
 -- is the first such.
 use Rattle.table.specs.Examine.{RowNumber}
 use Rattle.table.specs.Refuse.{bad, fine}
-use Rattle.table.specs.Row.{rowAt}
 use borrow.Author.Count.{below-more}
 use Prim.Native.Nat.{ℕ, _+_, _-_, _≤_, _<_}
 use mathlib.Core.Path.{refl}
@@ -12,10 +11,10 @@ use Rattle.table.proofs.rows.Statement.{statement}
 use Rattle.table.proofs.rows.Tie as tie
 
 abbrev Inv-loop : tie.InvT-loop
-Inv-loop s nodes bound count r₀ r = (r + 1 ≤ nodes) × ((i : ℕ) → i < r → RowNumber nodes (rowAt s i) 0)
+Inv-loop s nodes bound n r₀ r = (r + 1 ≤ nodes) × ((i : ℕ) → i < r → RowNumber nodes s i 0)
 
 abbrev μ-loop : tie.MeasureT-loop
-μ-loop s nodes bound count r₀ r = nodes - r
+μ-loop s nodes bound n r₀ r = nodes - r
 
 loop-holds : tie.Need-loop-holds Inv-loop μ-loop
 loop-holds c = (omega arith, λ i h. absurd (omega arith))

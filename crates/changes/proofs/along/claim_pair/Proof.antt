@@ -1,5 +1,5 @@
--- `marks::along::claim_pair` meets its contract: 13, 14 and 15 as the tests have it, then as `claim_walked` says. What
--- a passed test shows is said once, where it is known first.
+-- `changes::along::claim_pair` meets its contract: 13, 14 and 15 as the tests have it, then as `claim_walked` says.
+-- What a passed test shows is said once, where it is known first.
 use Prim.Native.Nat.{_-_}
 use mathlib.Core.Path.{_≡_}
 use lib.ListN.{length}

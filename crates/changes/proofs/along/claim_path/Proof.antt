@@ -1,4 +1,4 @@
--- `marks::along::claim_path` meets its contract: the two climbs up to where they meet make the path, so their lengths
+-- `changes::along::claim_path` meets its contract: the two climbs up to where they meet make the path, so their lengths
 -- and free rows add up to the path's.
 use Rattle.reach.proofs.NetWalk.{walk-climb}
 use Rattle.tree.proofs.Meeting.{walk-hung}

@@ -1,4 +1,4 @@
--- `marks::along::claim_walked` meets its contract: the walk of the accepted net is what `claim_path` asks for.
+-- `changes::along::claim_walked` meets its contract: the walk of the accepted net is what `claim_path` asks for.
 use borrow.Author.Needs.{needs}
 use Rattle.changes.proofs.along.claim_walked.Statement.{statement}
 use Rattle.changes.proofs.along.claim_walked.Tie as tie

@@ -1,4 +1,4 @@
--- `marks::along::take` meets its contract: the mark is set exactly where it was free.
+-- `changes::along::take` meets its contract: the mark is set exactly where it was free.
 use mathlib.Core.Path.{refl}
 use borrow.Author.Needs.{needs}
 use Rattle.changes.proofs.along.take.Statement.{statement}

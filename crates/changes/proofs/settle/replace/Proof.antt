@@ -1,4 +1,4 @@
--- `marks::settle::replace` meets its contract. The loop's invariant: places below i that held `old` hold `new`, all
+-- `changes::settle::replace` meets its contract. The loop's invariant: places below i that held `old` hold `new`, all
 -- others are as they were, k counts the former.
 use Rattle.changes.proofs.Replacing.{Replacing, replacing-start, replacing-hit, replacing-miss, replacing-end}
 use Prim.Native.Nat.{_-_}

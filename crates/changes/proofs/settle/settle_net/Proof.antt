@@ -1,4 +1,4 @@
--- `marks::settle::settle_net` meets its contract: 13 and 14 as the tests have it, and the marks that hold the run's
+-- `changes::settle::settle_net` meets its contract: 13 and 14 as the tests have it, and the marks that hold the run's
 -- number are those that the run holds.
 use Rattle.table.specs.Refuse.{refused, passed}
 use Rattle.marks.specs.Mark.{RunNumber}
