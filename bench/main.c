@@ -12,12 +12,12 @@
 
 enum { SIZES = 3, PAGE = 65536 };
 /* The operations that are measured, and from OPS on those that are only compared; 2: of the table of version 2. */
-enum op { HEAVIEST, HEAVIEST_EXACT, LISTING, LISTING_EXACT, PAIR, PAIR_2, CLAIM, RING, OPS,
-          ACCEPT_2 = OPS, HEAVIEST_2, LISTING_2, ALL };
+enum op { HEAVIEST, HEAVIEST_EXACT, LISTING, LISTING_EXACT, PAIR, PAIR_2, CLAIM, CONVERT, RING, OPS,
+          ACCEPT_2 = OPS, HEAVIEST_2, LISTING_2, COMMIT, ALL };
 static const size_t sizes[SIZES] = {256, 1024, 4096};
 static const char *op_names[ALL] = {"Heaviest", "Heaviest exact", "Listing", "Listing exact", "Pair", "Pair, version 2",
-                                    "Claim and abort", "Refusal 11", "Acceptance, version 2",
-                                    "Heaviest, version 2", "Listing, version 2"};
+                                    "Claim and abort", "Convert", "Refusal 11", "Acceptance, version 2",
+                                    "Heaviest, version 2", "Listing, version 2", "Claim and commit"};
 
 static uint8_t table[12 * 4096], table_2[12 * 4096], ringed[12 * 4096], page_scan[PAGE], page_library[PAGE];
 static uint16_t marks_scan[4096], marks_library[4096];
@@ -30,7 +30,7 @@ static int differ;
 
 static uint64_t seed;
 
-/* One call (claim and abort: two) by the scan or the library. */
+/* One call (claim and abort, claim and commit: two) by the scan or the library. */
 static void call(int op, int library, uint16_t a, uint16_t b, int64_t answer[8]) {
     uint16_t *marks = library ? marks_library : marks_scan;
     uint8_t *page = library ? page_library : page_scan;
@@ -55,10 +55,12 @@ static void call(int op, int library, uint16_t a, uint16_t b, int64_t answer[8])
     case LISTING_2:
         (library ? hb_listing : scan_listing)(table_2, table_len, marks, m, best_2[6] - 50, 0, 0, page, PAGE, answer);
         break;
+    case CONVERT: (library ? hb_convert : scan_convert)(table, table_len, marks, m, answer); break;
     case RING: (library ? hb_accept : scan_accept)(ringed, table_len, answer); break;
     default:
         (library ? hb_claim : scan_claim)(table, table_len, marks, m, 7, (uint16_t)best[3], (uint16_t)best[4], answer);
-        (library ? hb_abort : scan_abort)(table, table_len, marks, m, 7, answer);
+        if (op == CLAIM) (library ? hb_abort : scan_abort)(table, table_len, marks, m, 7, answer);
+        else (library ? hb_commit : scan_commit)(table, table_len, marks, m, 7, answer);
     }
 }
 
@@ -84,8 +86,10 @@ static double measure(int op, int library, int64_t answer[8]) {
     return second;
 }
 
-/* Equal answers, page and marks; for pair on fifty pairs. */
+/* Equal answers, page and marks; for pair on fifty pairs. Leaves the marks as they were. */
 static void compare(int op, const char *shape) {
+    uint16_t before[4096];
+    memcpy(before, marks_scan, sizeof before);
     seed = 78;
     for (int i = 0; i < (op == PAIR || op == PAIR_2 ? 50 : 1); i++) {
         uint16_t a = (uint16_t)(next_number(&seed) % n), b = (uint16_t)((a + 1 + next_number(&seed) % (n - 1)) % n);
@@ -98,10 +102,12 @@ static void compare(int op, const char *shape) {
             differ = 1;
         }
     }
+    memcpy(marks_scan, before, sizeof before), memcpy(marks_library, before, sizeof before);
 }
 
-static void mark_every_third(uint16_t mark) {
-    for (size_t r = 0; r + 1 < n; r += 3) marks_scan[r] = marks_library[r] = mark;
+/* Two marks in turn, on every third branch. */
+static void mark_every_third(uint16_t mark, uint16_t other) {
+    for (size_t r = 0; r + 1 < n; r += 3) marks_scan[r] = marks_library[r] = r % 2 ? other : mark;
 }
 
 /* The next net of a shape, all branches free; its heaviest runs are what listings and claims go by. Beside it the same
@@ -118,11 +124,14 @@ static void take_net(int shape, size_t nodes, enum lengths lengths) {
     scan_heaviest(table_2, table_len, marks_scan, n - 1, best_2);
 }
 
-/* The same under marks, so that what a marked row weighs is compared too. */
+/* The same under marks, held by run 9 and spent by run 7, so that what a marked row weighs is compared too, and that a
+   commit or abort of run 7 leaves what it has spent; and under old marks that convert takes. */
 static void compare_marked(const char *shape) {
-    mark_every_third(9);
+    mark_every_third(9, 0x8000 | 7);
     for (int op = 0; op < ALL; op++) compare(op, shape);
-    mark_every_third(0);
+    mark_every_third(9, 65535);
+    compare(CONVERT, shape);
+    mark_every_third(0, 0);
 }
 
 #define X(i) (90 + 250 * (double)(i))

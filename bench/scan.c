@@ -3,7 +3,7 @@
 #include "scan.h"
 #include <string.h>
 
-enum { MOST = 4096 };
+enum { MOST = 4096, MOST_RUN = 32766, SPENT = 32768 /* a mark's top bit */ };
 
 typedef struct {
     size_t n;
@@ -254,7 +254,7 @@ uint8_t scan_claim(const uint8_t *table, size_t table_len, uint16_t *marks, size
     paths p;
     uint8_t number = begin(table, table_len, marks, marks_len, &t, answer);
     if (number) return number;
-    if (run == 0 || run == 65535) return refuse(answer, 14, 0);
+    if (run == 0 || run > MOST_RUN) return refuse(answer, 14, 0);
     if (a >= t.n || b >= t.n || a == b) return refuse(answer, 15, 0);
     walk(&t, a, &p);
     if (p.length[b] > t.bound) return refuse(answer, 18, 0);
@@ -267,16 +267,37 @@ uint8_t scan_claim(const uint8_t *table, size_t table_len, uint16_t *marks, size
     return 0;
 }
 
-uint8_t scan_abort(const uint8_t *table, size_t table_len, uint16_t *marks, size_t marks_len,
-                   uint16_t run, int64_t answer[8]) {
+/* What the run holds, unspent, becomes that mark. */
+static uint8_t settle(const uint8_t *table, size_t table_len, uint16_t *marks, size_t marks_len,
+                      uint16_t run, uint16_t mark, int64_t answer[8]) {
     net t;
     uint8_t number = begin(table, table_len, marks, marks_len, &t, answer);
     if (number) return number;
-    if (run == 0 || run == 65535) return refuse(answer, 14, 0);
-    int64_t freed = 0;
+    if (run == 0 || run > MOST_RUN) return refuse(answer, 14, 0);
+    int64_t changed = 0;
     for (size_t r = 0; r < marks_len; r++)
-        if (marks[r] == run) marks[r] = 0, freed++;
+        if (marks[r] == run) marks[r] = mark, changed++;
     refuse(answer, 0, 0);
-    answer[3] = freed;
+    answer[3] = changed;
     return 0;
+}
+
+uint8_t scan_commit(const uint8_t *table, size_t table_len, uint16_t *marks, size_t marks_len,
+                    uint16_t run, int64_t answer[8]) {
+    return settle(table, table_len, marks, marks_len, run, (uint16_t)(run | SPENT), answer);
+}
+
+uint8_t scan_abort(const uint8_t *table, size_t table_len, uint16_t *marks, size_t marks_len,
+                   uint16_t run, int64_t answer[8]) {
+    return settle(table, table_len, marks, marks_len, run, 0, answer);
+}
+
+uint8_t scan_convert(const uint8_t *table, size_t table_len, const uint16_t *marks, size_t marks_len,
+                     int64_t answer[8]) {
+    net t;
+    uint8_t number = begin(table, table_len, marks, marks_len, &t, answer);
+    if (number) return number;
+    for (size_t r = 0; r < marks_len; r++)
+        if (marks[r] > MOST_RUN && marks[r] < 65535) return refuse(answer, 24, r);
+    return refuse(answer, 0, 0);
 }

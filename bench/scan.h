@@ -18,7 +18,11 @@ uint8_t scan_listing_exact(const uint8_t *table, size_t table_len, const uint16_
                            uint8_t *rows, size_t rows_len, int64_t answer[8]);
 uint8_t scan_claim(const uint8_t *table, size_t table_len, uint16_t *marks, size_t marks_len,
                    uint16_t run, uint16_t a, uint16_t b, int64_t answer[8]);
+uint8_t scan_commit(const uint8_t *table, size_t table_len, uint16_t *marks, size_t marks_len,
+                    uint16_t run, int64_t answer[8]);
 uint8_t scan_abort(const uint8_t *table, size_t table_len, uint16_t *marks, size_t marks_len,
                    uint16_t run, int64_t answer[8]);
+uint8_t scan_convert(const uint8_t *table, size_t table_len, const uint16_t *marks, size_t marks_len,
+                     int64_t answer[8]);
 
 #endif

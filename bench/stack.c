@@ -7,9 +7,10 @@
 #include <stdlib.h>
 #include <string.h>
 
-enum { STACK = 2 << 20, NODES = 4096, OPS = 11, PAINT = 0xA5 };
+enum { STACK = 2 << 20, NODES = 4096, OPS = 12, PAINT = 0xA5 };
 static const char *names[OPS] = {"(the thread itself)", "hb_accept", "hb_pair", "hb_heaviest", "hb_heaviest_exact",
-                                 "hb_heads", "hb_listing", "hb_listing_exact", "hb_claim", "hb_commit", "hb_abort"};
+                                 "hb_heads", "hb_listing", "hb_listing_exact", "hb_claim", "hb_commit", "hb_abort",
+                                 "hb_convert"};
 static uint8_t table[12 * NODES], page[65536];
 static uint16_t marks[NODES], heads[NODES];
 static size_t size;
@@ -28,6 +29,7 @@ static void *call(void *which) {
     case 8: hb_claim(table, size, marks, m, 7, 1, 2, answer); break;
     case 9: hb_commit(table, size, marks, m, 7, answer); break;
     case 10: hb_abort(table, size, marks, m, 7, answer); break;
+    case 11: hb_convert(table, size, marks, m, answer); break;
     }
     return NULL;
 }

@@ -1,4 +1,5 @@
-/* Opens a table, finds the heaviest run, claims it, finds the next, and aborts the claim.
+/* Opens a table, finds the heaviest run, claims it, finds the next, and aborts the claim; then another run claims the
+   same and commits, and the branches tell by whom they are spent.
 
        run TABLE        for example: run examples/n5.rtn */
 #include "hourbench.h"
@@ -42,5 +43,11 @@ int main(int argc, char **argv) {
 
     if (hb_abort(table, size, marks, branches, 7, answer)) return refused(answer);
     printf("run 7 aborted, %" PRId64 " freed\n", answer[3]);
+
+    if (hb_claim(table, size, marks, branches, 8, low, high, answer)) return refused(answer);
+    if (hb_commit(table, size, marks, branches, 8, answer)) return refused(answer);
+    printf("run 8 committed, %" PRId64 " spent\n", answer[3]);
+    for (size_t row = 0; row < branches; row++)
+        if (HB_SPENT(marks[row])) printf("row %zu spent by run %u\n", row, HB_RUN(marks[row]));
     return 0;
 }

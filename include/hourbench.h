@@ -31,14 +31,17 @@
                16, 16, 18, 20, 22, 24; kinds 24 to 31 are filler and score 0; kinds 32 to 63 are blocked ground and
                score -50.
              The rows must join all nodes in a tree
-   marks     one number for each branch, in row order, n - 1 of them: 0 free, 1 to 65,534 held by that run, 65,535
-             spent. A marked branch weighs the lesser of 0 and its own weight; its length stays
+   marks     one number for each branch, in row order, n - 1 of them: the top bit says spent, the other fifteen bits
+             keep the run. So 0 is free, 7 held by run 7, 32,775 spent by it (HB_RUN and HB_SPENT below). Run numbers
+             are 1 to 32,766; 32,767 in a mark is the sign for "unknown". Any number is taken, and all but 0 count as
+             marked. A marked branch weighs the lesser of 0 and its own weight; its length stays. Marks kept from a
+             version before 1.5.0 are brought over once, by hb_convert
 
    Refusal numbers, each given exactly when its condition holds and none before it in the operation's order does:
         1  under 12 bytes                         11  ring: the row whose ends earlier rows already join
         2  mark not RTN                           12  no ring, yet some node isn't joined to node 0
         3  version neither 1 nor 2                13  marks are not n - 1 in number
-        4  n is 0 or above 4,096                  14  run number 0 or 65,535
+        4  n is 0 or above 4,096                  14  run number 0 or above 32,766
         5  reserved byte not 0                    15  a node not below n, or both the same
         6  size not 12 x n                        16  no pair within the bound
         7  row names a node not below n           17  under 16 bytes for rows
@@ -48,6 +51,7 @@
                                                   21  no pair of exactly the bound's length
                                                   22  unknown cell kind: 64 or more (version 2)
                                                   23  count above 20,000 (version 2)
+                                                  24  an old mark from 32,767 to 65,534
    Every function begins with 1 to 12; for rows of version 2, 22 and then 23 stand where 10 does. */
 #ifndef HOURBENCH_H
 #define HOURBENCH_H
@@ -56,10 +60,14 @@
 #include <stdint.h>
 
 /* The library's version; CHANGES.md says how it moves. */
-#define HB_VERSION "1.4.0"
+#define HB_VERSION "1.5.0"
 #define HB_VERSION_MAJOR 1
-#define HB_VERSION_MINOR 4
+#define HB_VERSION_MINOR 5
 #define HB_VERSION_PATCH 0
+
+/* Of a mark: HB_RUN, the run by which its branch is held or spent, 0 where free; HB_SPENT, whether it is spent. */
+#define HB_RUN(mark) ((mark) & 0x7fffu)
+#define HB_SPENT(mark) (((mark) & 0x8000u) != 0)
 
 #ifdef __cplusplus
 extern "C" {
@@ -100,12 +108,20 @@ uint8_t hb_listing_exact(const uint8_t *table, size_t table_len, const uint16_t 
 uint8_t hb_claim(const uint8_t *table, size_t table_len, uint16_t *marks, size_t marks_len,
                  uint16_t run, uint16_t a, uint16_t b, int64_t *answer);
 
-/* Each branch held by the run becomes spent (commit) or free (abort); 0 is a proper result. Fields: changed.
+/* Each branch held, unspent, by the run becomes spent by it (commit: the mark's top bit is set) or free (abort); 0 is a
+   proper result. What is spent never changes, also where its run's number is used again. Fields: changed.
    Then 13, 14. */
 uint8_t hb_commit(const uint8_t *table, size_t table_len, uint16_t *marks, size_t marks_len,
                   uint16_t run, int64_t *answer);
 uint8_t hb_abort(const uint8_t *table, size_t table_len, uint16_t *marks, size_t marks_len,
                  uint16_t run, int64_t *answer);
+
+/* Brings over marks kept from a version before 1.5.0, where 1 to 65,534 was held by that run and 65,535 spent: once for
+   each such set, before any other call takes it. It only reads the marks, which stay as they are: where it refuses
+   nothing, they are from then on read as above. What was free or held by a run is so still, and 65,535 is spent by run
+   32,767, "unknown". No fields. Then 13, 24, which names the first such row: let the version before commit or abort
+   what its run holds, and call again. */
+uint8_t hb_convert(const uint8_t *table, size_t table_len, const uint16_t *marks, size_t marks_len, int64_t *answer);
 
 #ifdef __cplusplus
 }

@@ -1,5 +1,5 @@
 //! An ask: an operation and its numbers; what it answers; its line (README.md has the form of both).
-use crate::net::{self, Lengths, Refused};
+use crate::net::{self, Lengths, Mark, Refused};
 
 /// What every lent byte and every lent head holds before a call.
 pub const LENT: u8 = 165;
@@ -16,6 +16,8 @@ pub enum Op {
     Pair,
     Heaviest,
     HeaviestExact,
+    Convert,
+    Reading,
     Listing,
     ListingExact,
     Heads,
@@ -25,7 +27,7 @@ pub enum Op {
 }
 
 /// Each operation's code in an ask.
-pub const CODES: [(Op, u16); 16] = [
+pub const CODES: [(Op, u16); 18] = [
     (Op::Open, 1),
     (Op::Examine, 2),
     (Op::RowPart, 3),
@@ -36,6 +38,8 @@ pub const CODES: [(Op, u16); 16] = [
     (Op::Pair, 18),
     (Op::Heaviest, 19),
     (Op::HeaviestExact, 20),
+    (Op::Convert, 21),
+    (Op::Reading, 22),
     (Op::Listing, 33),
     (Op::ListingExact, 34),
     (Op::Heads, 49),
@@ -67,6 +71,15 @@ pub struct Said {
     pub memory: Option<Vec<u16>>,
 }
 
+/// What a mark says, as two fields: 1 where it is spent, and its run.
+pub fn of_mark(mark: Mark) -> Vec<i128> {
+    match mark {
+        Mark::Free => vec![0, 0],
+        Mark::Held(run) => vec![0, run as i128],
+        Mark::Spent(run) => vec![1, run as i128],
+    }
+}
+
 impl Ask {
     pub fn new(op: Op, text: &str) -> Ask {
         Ask { op, text: text.to_string(), lent: 0, shown: 0, run: 0, a: 0, b: 0, x: 0 }
@@ -75,9 +88,9 @@ impl Ask {
     /// How many fields the operation's answer has.
     pub fn many(&self) -> usize {
         match self.op {
-            Op::RowPart | Op::FirstRow | Op::Heads => 0,
+            Op::RowPart | Op::FirstRow | Op::Convert | Op::Heads => 0,
             Op::NextRow | Op::Claim | Op::Commit | Op::Abort => 1,
-            Op::Open | Op::Examine | Op::Accept | Op::Listing | Op::ListingExact => 2,
+            Op::Open | Op::Examine | Op::Accept | Op::Reading | Op::Listing | Op::ListingExact => 2,
             Op::Pair => 3,
             Op::Row | Op::Heaviest | Op::HeaviestExact => 4,
         }
@@ -117,12 +130,14 @@ impl Ask {
             Op::Pair => net::pair(t, marks, self.a, self.b).map(|(l, w, h)| vec![l as i128, w as i128, h as i128]),
             Op::Heaviest => net::heaviest(t, marks).map(run),
             Op::HeaviestExact => net::heaviest_exact(t, marks).map(run),
+            Op::Convert => net::convert(t, marks).map(|_| vec![]),
+            Op::Reading => Ok(marks.get(self.x as usize).map_or(vec![0, 0], |mark| of_mark(net::reading(*mark)))),
             Op::Listing => page(Lengths::AtMost).map(|(written, left)| vec![written as i128, left as i128]),
             Op::ListingExact => page(Lengths::Exactly).map(|(written, left)| vec![written as i128, left as i128]),
             Op::Heads => net::heads(t, &mut heads).map(|_| vec![]),
             Op::Claim => net::claim(t, marks, self.run, self.a, self.b).map(|k| vec![k as i128]),
-            Op::Commit => net::settle(t, marks, self.run, 65535).map(|k| vec![k as i128]),
-            Op::Abort => net::settle(t, marks, self.run, 0).map(|k| vec![k as i128]),
+            Op::Commit => net::commit(t, marks, self.run).map(|k| vec![k as i128]),
+            Op::Abort => net::abort(t, marks, self.run).map(|k| vec![k as i128]),
         };
         let memory = match self.op {
             Op::RowPart => wide(net::part(t, self.x)),

@@ -60,7 +60,7 @@ fn make(seed: u64, count: usize, limit: usize, with_worked: bool) -> Vec<Case> {
         return random;
     }
     if let Some(first) = random.first_mut() {
-        first.text = "\nRandom cases, twelve lines each.\n".to_string();
+        first.text = "\nRandom cases, thirteen lines each.\n".to_string();
     }
     let mut all: Vec<Case> = worked().into_iter().map(|(case, _)| case).collect();
     all.append(&mut random);

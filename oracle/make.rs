@@ -108,6 +108,39 @@ fn branches(r: &mut Random, n: usize, version: u8) -> Vec<Branch> {
     rows
 }
 
+/// A run number: mostly small, so that runs meet; else at the edges of what one may be.
+fn run_number(r: &mut Random) -> u16 {
+    if r.one_in(6) {
+        r.pick(&[0, 32_766, 32_766, 32_766, 32_767, 32_768, 65_534, 65_535])
+    } else {
+        1 + r.below(4) as u16
+    }
+}
+
+/// Marks, few or many: half of the time any, among them those held and those spent by the runs that the case asks of;
+/// else an old set, every second one with a single mark that 24 refuses.
+fn marks(r: &mut Random, n: usize, run: u16, other: u16) -> Vec<u16> {
+    let (full, sort) = (r.below(4), r.below(4));
+    let top = |run: u16| 32_768 | run;
+    let mark = |r: &mut Random| match full {
+        0 => 0,
+        1 if !r.one_in(6) => 0,
+        2 if r.one_in(2) => 0,
+        _ if sort >= 2 => r.pick(&[1, 2, 3, 4, 32_766, 65_535]),
+        _ => match r.below(4) {
+            0 => r.pick(&[run, other]),
+            1 => top(r.pick(&[run, other])),
+            2 => r.pick(&[1, 2, 3, 4, top(1), top(2), top(3), top(4)]),
+            _ => r.pick(&[32_766, 32_767, 32_768, 65_534, 65_535]),
+        },
+    };
+    let mut marks: Vec<u16> = (1..n).map(|_| mark(r)).collect();
+    if sort == 3 && n > 1 {
+        marks[r.below(n - 1)] = r.pick(&[32_767, 32_768, 32_769, 49_152, 65_533, 65_534]);
+    }
+    marks
+}
+
 /// The length and weight of some pair, so that bounds and floors meet them exactly.
 fn some_pair(r: &mut Random, net: &Net, marks: &[u16]) -> (u64, i64) {
     let f = net.from(r.below(net.n), marks);
@@ -165,15 +198,11 @@ fn random(r: &mut Random, limit: usize) -> Plain {
     };
     let version = if r.one_in(3) { 2 } else { 1 };
     let rows = branches(r, n, version);
-    let run = if r.one_in(8) { r.pick(&[0, 65535, 65534]) } else { 1 + r.below(4) as u16 };
-    let full = r.below(4);
-    let mark = |r: &mut Random| match full {
-        0 => 0,
-        1 if !r.one_in(6) => 0,
-        2 if r.one_in(2) => 0,
-        _ => r.pick(&[1, 2, 3, 4, run, 65534, 65535]),
-    };
-    let mut marks: Vec<u16> = (1..n).map(|_| mark(r)).collect();
+    // From numbers of their own, so that the tables stay the same whatever marks are made.
+    let own = &mut Random(r.next());
+    let run = run_number(own);
+    let other = if own.one_in(3) { run } else { run_number(own) };
+    let mut marks = marks(own, n, run, other);
 
     let open = net::accept(&table(n as u16, 0, &rows)).ok().expect("a tree");
     let (length, weight) = some_pair(r, &open, &marks);
@@ -223,13 +252,6 @@ fn random(r: &mut Random, limit: usize) -> Plain {
         marks.resize(wrong, 0);
     }
     let heads = if r.one_in(12) { r.pick(&[0, n - 1, n + 1]) } else { n } as u16;
-    let other = if r.one_in(8) {
-        r.pick(&[0, 65535, 65534])
-    } else if r.one_in(3) {
-        run
-    } else {
-        1 + r.below(4) as u16
-    };
     if r.one_in(4) {
         damage(r, &mut t, n, version);
         if r.one_in(4) {

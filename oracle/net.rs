@@ -52,6 +52,27 @@ fn score(kind: usize) -> Option<i64> {
     }
 }
 
+/// What a mark says of its branch (document 02, Req 06).
+#[derive(Clone, Copy, PartialEq)]
+pub enum Mark {
+    Free,
+    Held(u16),
+    Spent(u16),
+}
+
+/// A mark's top bit alone, as a number: what setting it adds.
+const TOP: u16 = 32_768;
+
+/// A mark's top bit means spent, and its other fifteen bits keep the run. What is not spent and keeps none is free.
+pub fn reading(mark: u16) -> Mark {
+    let (top, others) = (mark / TOP, mark % TOP);
+    match (top, others) {
+        (1, run) => Mark::Spent(run),
+        (_, 0) => Mark::Free,
+        (_, run) => Mark::Held(run),
+    }
+}
+
 fn u16_at(s: &[u8], at: usize) -> usize {
     u16::from_le_bytes([s[at], s[at + 1]]) as usize
 }
@@ -289,7 +310,7 @@ impl Net {
 
 /// 14.
 fn run_number(run: u16) -> Result<(), Refused> {
-    if run == 0 || run == 65535 { Err(refused(14, 0)) } else { Ok(()) }
+    if run == 0 || run > 32_766 { Err(refused(14, 0)) } else { Ok(()) }
 }
 
 /// Length, weight and hops of the path between two nodes.
@@ -425,15 +446,36 @@ pub fn claim(s: &[u8], marks: &mut [u16], run: u16, a: u16, b: u16) -> Result<us
     Ok(free.len())
 }
 
-/// Commit (`to` is 65,535) and abort (`to` is 0): each branch held by the run becomes so; how many.
-pub fn settle(s: &[u8], marks: &mut [u16], run: u16, to: u16) -> Result<usize, Refused> {
+/// Each branch that the run holds unspent takes another mark; how many.
+fn settle(s: &[u8], marks: &mut [u16], run: u16, new: fn(u16) -> u16) -> Result<usize, Refused> {
     let net = accept(s)?;
     net.marks_fit(marks)?;
     run_number(run)?;
     let mut changed = 0;
-    for m in marks.iter_mut().filter(|m| **m == run) {
-        *m = to;
+    for m in marks.iter_mut().filter(|m| reading(**m) == Mark::Held(run)) {
+        *m = new(*m);
         changed += 1;
     }
     Ok(changed)
+}
+
+/// Commit sets the top bit on what the run holds unspent (document 02, Req 06).
+pub fn commit(s: &[u8], marks: &mut [u16], run: u16) -> Result<usize, Refused> {
+    settle(s, marks, run, |mark| TOP + mark)
+}
+
+/// Abort frees only that.
+pub fn abort(s: &[u8], marks: &mut [u16], run: u16) -> Result<usize, Refused> {
+    settle(s, marks, run, |_| 0)
+}
+
+/// An old set of marks is brought over, with no number changed; 24 names the first old mark from 32,767 to 65,534
+/// (document 02, Req 06).
+pub fn convert(s: &[u8], marks: &[u16]) -> Result<(), Refused> {
+    let net = accept(s)?;
+    net.marks_fit(marks)?;
+    match marks.iter().position(|old| (32_767..=65_534).contains(old)) {
+        Some(row) => Err(refused(24, row)),
+        None => Ok(()),
+    }
 }

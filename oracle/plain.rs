@@ -65,9 +65,9 @@ pub fn plain(table: Vec<u8>, marks: &[u16]) -> Plain {
 }
 
 impl Plain {
-    /// The twelve asks: every operation on the table and its marks as they come, then the changes of the marks and what
-    /// is said of them then.
-    pub fn twelve(&self) -> Vec<Ask> {
+    /// The usual asks: every operation on the table and its marks as they come, then the changes of the marks and
+    /// what is said of them then.
+    pub fn usual(&self) -> Vec<Ask> {
         let of = |op, text: &str| Ask::new(op, &format!("{text}:"));
         let pair = |op, text| Ask { a: self.a, b: self.b, ..of(op, text) };
         let page = |op, text| {
@@ -76,6 +76,7 @@ impl Plain {
         };
         vec![
             of(Op::Accept, "accept"),
+            of(Op::Convert, "convert"),
             pair(Op::Pair, "pair"),
             of(Op::Heaviest, "heaviest"),
             of(Op::HeaviestExact, "heaviest exact"),
@@ -91,7 +92,7 @@ impl Plain {
     }
 
     pub fn case(self) -> Case {
-        let asks = self.twelve();
+        let asks = self.usual();
         Case { text: String::new(), table: self.table, marks: self.marks, asks }
     }
 }

@@ -163,8 +163,14 @@ pub fn first() -> Vec<Plain> {
     all.push(of(vec![], 16));
     all.push(of(n5(8)[..48].to_vec(), 16));
     all.push(of(version_1(4097, 8, &N5), 16));
-    all.push(of(version_1(3, 8, &[(0, 1, 3, 2), (1, 3, 3, 2)]), 16));
-    all.push(of(version_1(3, 8, &[(0, 1, 3, 2), (1, 2, 1_000_001, 2)]), 16));
+    for (at, byte) in [(0, b'r'), (7, 1)] {
+        let mut t = n5(8);
+        t[at] = byte;
+        all.push(of(t, 16));
+    }
+    for bad in [(1, 3, 3, 2), (1, 1, 3, 2), (1, 2, 1_000_001, 2), (1, 2, 3, 1_000_001)] {
+        all.push(of(version_1(3, 8, &[(0, 1, 3, 2), bad]), 16));
+    }
     all.push(of(version_1(4, 9, &[(0, 1, 4, -5), (1, 2, 5, -5), (1, 3, 4, -6)]), 16));
     all.push(of(version_1(3, u32::MAX, &[(2, 1, 1_000_000, -1_000_000), (1, 0, 1_000_000, -1_000_000)]), 16));
     let far: Vec<Weighed> = (1..60).map(|x| (x - 1, x, 1_000_000, 1_000_000)).collect();

@@ -1,8 +1,9 @@
 //! Reads worked.txt: the hand-worked cases in words, each ask with the answer that was worked out by hand. What is
 //! written there is what the library must say; that this program computes the same is tested, and a difference is told
 //! with its line. README.md has the form.
-use crate::asks::{Ask, Op, Said, LENT};
+use crate::asks::{of_mark, Ask, Op, Said, LENT};
 use crate::cases::Case;
+use crate::net::Mark;
 use crate::plain::{plain, table, version, Branch, Carried};
 use std::collections::HashMap;
 use std::str::FromStr;
@@ -129,6 +130,15 @@ fn table_of(line: &str, nets: &HashMap<String, Vec<Branch>>) -> Read<(Vec<u8>, u
     Ok((t, net.len()))
 }
 
+/// Marks: `0 7 7 0`, or where many are alike `4094 times 0 7`.
+fn marks(words: &[&str]) -> Read<Vec<u16>> {
+    Ok(match words {
+        [k, "times", m, rest @ ..] => [vec![number(m)?; number(k)?], marks(rest)?].concat(),
+        [m, rest @ ..] => [vec![number(m)?], marks(rest)?].concat(),
+        [] => vec![],
+    })
+}
+
 fn floor(word: &str) -> Read<u64> {
     match word {
         "least" => Ok(i64::MIN as u64),
@@ -159,6 +169,8 @@ fn ask(text: &str) -> Read<Ask> {
         ["pair", a, b] => Ask { a: number(a)?, b: number(b)?, ..of(Op::Pair) },
         ["heaviest"] => of(Op::Heaviest),
         ["heaviest", "exact"] => of(Op::HeaviestExact),
+        ["convert"] => of(Op::Convert),
+        ["mark", "of", "row", r] => Ask { x: number(r)?, ..of(Op::Reading) },
         ["listing", "exact", ref rest @ ..] => page(Op::ListingExact, rest)?,
         ["listing", ref rest @ ..] => page(Op::Listing, rest)?,
         ["heads", "of", k] => Ask { lent: number(k)?, ..of(Op::Heads) },
@@ -190,16 +202,26 @@ fn part(row: &[&str]) -> Read<Vec<u8>> {
     Ok(table(0, 0, &[(a, b, number(length)?, last)])[12..].to_vec())
 }
 
+/// What a mark says: `free`, `held by 7`, `spent by 7`.
+fn reading(words: &[&str]) -> Read<Mark> {
+    match words {
+        ["free"] => Ok(Mark::Free),
+        ["held", "by", r] => Ok(Mark::Held(number(r)?)),
+        ["spent", "by", r] => Ok(Mark::Spent(number(r)?)),
+        other => strange("what a mark says", other),
+    }
+}
+
 fn wide(bytes: Vec<u8>) -> Option<Vec<u16>> {
     Some(bytes.into_iter().map(u16::from).collect())
 }
 
 /// The answer as it is written. A refusal leaves the lent memory and the marks as they were.
-fn said(ask: &Ask, text: &str, marks: &[u16]) -> Read<Said> {
+fn said(ask: &Ask, text: &str, before: &[u16]) -> Read<Said> {
     let all = parts(text);
     let lent = || match ask.op {
         Op::Listing | Op::ListingExact | Op::Heads => Some(vec![LENT as u16; ask.lent as usize]),
-        Op::Claim | Op::Commit | Op::Abort => Some(marks.to_vec()),
+        Op::Claim | Op::Commit | Op::Abort => Some(before.to_vec()),
         _ => None,
     };
     let refusal = match all[0][..] {
@@ -228,6 +250,9 @@ fn said(ask: &Ask, text: &str, marks: &[u16]) -> Read<Said> {
             }
             _ => strange("two nodes, length and weight", one),
         },
+        (Op::Convert, [one]) if one[..] == ["converted"] => fine(Ok(vec![]), None),
+        (Op::Reading, [_]) if ask.x >= before.len() as u64 => Err("no such mark".to_string()),
+        (Op::Reading, [one]) => fine(Ok(of_mark(reading(one)?)), None),
         (Op::Listing | Op::ListingExact, [found @ .., left]) => {
             let found: &[Vec<&str>] = if found == [["nothing"]] { &[] } else { found };
             let mut bytes = found.iter().map(|r| listed(r)).collect::<Read<Vec<_>>>()?.concat();
@@ -239,7 +264,7 @@ fn said(ask: &Ask, text: &str, marks: &[u16]) -> Read<Said> {
         }
         (Op::Heads, [one]) => fine(Ok(vec![]), Some(numbers(one)?)),
         (Op::Claim | Op::Commit | Op::Abort, [count, after]) => match (&count[..], &after[..]) {
-            ([k, "branches"], ["marks", marks @ ..]) => fine(numbers(&[k]), Some(numbers(marks)?)),
+            ([k, "branches"], ["marks", after @ ..]) => fine(numbers(&[k]), Some(marks(after)?)),
             _ => strange("branches and marks", count),
         },
         (Op::RowPart | Op::FirstRow, [one]) if one[..] == ["no", "part"] => fine(Ok(vec![]), Some(vec![])),
@@ -249,8 +274,8 @@ fn said(ask: &Ask, text: &str, marks: &[u16]) -> Read<Said> {
     }
 }
 
-/// `the twelve, floor 10, room 16`: what a random case asks, answered by this program alone, on indented lines.
-fn twelve(text: &str, case: &Case) -> Read<Vec<Ask>> {
+/// `the usual asks, floor 10, room 16`: what a random case asks, answered by this program alone, on indented lines.
+fn usual(text: &str, case: &Case) -> Read<Vec<Ask>> {
     let mut p = plain(case.table.clone(), &case.marks);
     for part in &parts(text)[1..] {
         match part[..] {
@@ -258,10 +283,10 @@ fn twelve(text: &str, case: &Case) -> Read<Vec<Ask>> {
             ["nodes", a, b] => (p.a, p.b) = (number(a)?, number(b)?),
             ["room", k] => p.room = number(k)?,
             ["floor", x] => p.floor = floor(x)? as i64,
-            ref other => return strange("what the twelve take", other),
+            ref other => return strange("what the usual asks take", other),
         }
     }
-    Ok(p.twelve().into_iter().map(|q| Ask { text: format!("    {}", q.text), ..q }).collect())
+    Ok(p.usual().into_iter().map(|q| Ask { text: format!("    {}", q.text), ..q }).collect())
 }
 
 impl Worked {
@@ -284,9 +309,9 @@ impl Worked {
             let (table, free) = table_of(rest, nets)?;
             (self.case.table, self.case.marks) = (table, vec![0; free]);
         } else if let Some(rest) = line.strip_prefix("marks ") {
-            self.case.marks = numbers(&words(rest))?;
-        } else if line.starts_with("the twelve") {
-            let asks = twelve(line, &self.case)?;
+            self.case.marks = marks(&words(rest))?;
+        } else if line.starts_with("the usual asks") {
+            let asks = usual(line, &self.case)?;
             self.answers.extend(asks.iter().map(|_| None));
             self.case.asks.extend(asks);
         } else {

@@ -7,11 +7,12 @@ use Rattle.table.specs.Refuse.{Only}
 use Rattle.tree.proofs.Begins.{accept-only}
 use Rattle.spines.proofs.HeadsOnly.{heads-only}
 use Rattle.changes.proofs.Only.{claim-only, commit-only, abort-only}
+use Rattle.convert.proofs.Only.{convert-only}
 use Rattle.pair.proofs.Only.{pair-only}
 use Rattle.heaviest.proofs.Only.{heaviest-only, heaviest-exact-only}
 use Rattle.listing.proofs.Only.{listing-only, listing-exact-only}
 use Rattle.eight.specs.Call.{Call}
-use Rattle.eight.specs.Shown.{acceptanceInC, pairInC, heaviestInC, headsInC, listingInC, changeInC}
+use Rattle.eight.specs.Shown.{acceptanceInC, pairInC, heaviestInC, headsInC, listingInC, changeInC, conversionInC}
 use Rattle.capi.specs.Promises.{
   ShowsInC,
   AcceptCall,
@@ -24,6 +25,7 @@ use Rattle.capi.specs.Promises.{
   ClaimCall,
   CommitCall,
   AbortCall,
+  ConvertCall,
 }
 
 shows-only : {O : Type 0} {Promise : O → Type 0} (inC : O → Call) → Only Promise → Only (ShowsInC Promise inC)
@@ -60,3 +62,6 @@ hb-commit-only s before run = shows-only changeInC (commit-only s before run)
 
 pub hb-abort-only : (s before : List ℕ) (run : ℕ) → Only (AbortCall s before run)
 hb-abort-only s before run = shows-only changeInC (abort-only s before run)
+
+pub hb-convert-only : (s marks : List ℕ) → Only (ConvertCall s marks)
+hb-convert-only s marks = shows-only conversionInC (convert-only s marks)

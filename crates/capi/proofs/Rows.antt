@@ -1,15 +1,16 @@
 -- The row that a refusal names is below 4,096 and its ring has no more rows than that, so that both fit a signed
--- number: a refusal of 1 to 12 names a row of the table, or 0, and a ring has rows up to the row named alone; an
--- operation's own refusals, from 13 on, and what it gives name none.
-use Prim.Native.Nat.{ℕ}
+-- number: a refusal of 1 to 12 names a row of the table, or 0, and a ring has rows up to the row named alone; of an
+-- operation's own refusals, from 13 on, 24 alone names one, which has a mark.
+use Prim.Native.Nat.{ℕ, _≤_}
 use mathlib.Core.List.{List}
 use native.Mathlib.Omega.{arith}
 use lib.IntN.{ℤ}
+use Rattle.table.specs.Header.{nodesOf}
 use Rattle.table.specs.Refuse.{Unless}
 use Rattle.tree.specs.Accept.{Accepts, acceptanceRefusal}
 use Rattle.tree.specs.declared.Acceptance.{Acceptance}
-use Rattle.table.proofs.Refusals.{by-unless}
-use Rattle.tree.proofs.Begins.{Told, by-beginning}
+use Rattle.table.proofs.Refusals.{by-unless, by-rows}
+use Rattle.tree.proofs.Begins.{Told, begins-map, by-beginning}
 use Rattle.spines.specs.Heads.{Heads, Headings, headsRefusal}
 use Rattle.spines.specs.declared.HeadsAnswer.{HeadsAnswer}
 use Rattle.spines.specs.declared.HeadsAnswer.the-variants as heads
@@ -17,6 +18,9 @@ use Rattle.changes.specs.Change.{Done, Settles, changeRefusal}
 use Rattle.changes.specs.declared.Change.{Change}
 use Rattle.changes.specs.declared.Change.the-variants as change
 use Rattle.changes.specs.Claim.{Claims}
+use Rattle.convert.specs.Convert.{GivesMarks, Converting, Converts, conversionRefusal}
+use Rattle.convert.specs.declared.Conversion.{Conversion}
+use Rattle.convert.specs.declared.Conversion.the-variants as conversion
 use Rattle.pair.specs.Pair.{ShowsPath, PairOf, pairRefusal}
 use Rattle.pair.specs.declared.PairAnswer.{PairAnswer}
 use Rattle.pair.specs.declared.PairAnswer.the-variants as pair
@@ -27,7 +31,16 @@ use Rattle.listing.specs.Listing.{GivesPage, ListingWithin, listingRefusal}
 use Rattle.listing.specs.declared.Listed.{Listed}
 use Rattle.listing.specs.declared.Listed.the-variants as listing
 use Rattle.listing.proofs.Few.{listing-few}
-use Rattle.eight.specs.work.Room.{Room, AcceptanceRoom, PairRoom, HeaviestRoom, HeadsRoom, PageRoom, ChangeRoom}
+use Rattle.eight.specs.work.Room.{
+  Room,
+  AcceptanceRoom,
+  PairRoom,
+  HeaviestRoom,
+  HeadsRoom,
+  PageRoom,
+  ChangeRoom,
+  ConversionRoom,
+}
 
 nowhere : Room 0 0
 nowhere = record { low = omega arith; few = omega arith }
@@ -108,3 +121,19 @@ claim-low s before run a b x p =
     let C : Change × List ℕ → Type 0 = λ o. ChangeRoom (o .0) in
     by-beginning C (changeRefusal before) s told
     (own C nowhere (own C nowhere (own C nowhere (own C nowhere (own C nowhere (changed _ run before)))))) p
+
+-- 24 names a row that has a mark, of which an accepted net has fewer than 4,096
+pub convert-low : (s marks : List ℕ) (x : Conversion) → Converts s marks x → ConversionRoom x
+convert-low s marks x p =
+    by-beginning ConversionRoom conversionRefusal s told (λ y q. after (q .0) y (q .1))
+    (begins-map (λ o. o) conversionRefusal s
+    {rest′ = λ o. (nodesOf s ≤ 4096) × Converting (nodesOf s) marks o} (λ N q. (N .few, q)) p)
+  where
+    given : (x : Conversion) → GivesMarks marks x → ConversionRoom x
+    given conversion.Converted q = tt
+    given (conversion.Refused why) q = absurd q
+
+    after : nodesOf s ≤ 4096 → (x : Conversion) → Converting (nodesOf s) marks x → ConversionRoom x
+    after few x =
+        by-unless ConversionRoom nowhere
+        (λ e y. by-rows ConversionRoom (λ k r l _. record { low = omega (arith, few, e, l); few = omega arith }) given)

@@ -7,11 +7,12 @@ use Rattle.tree.specs.Accept.{Accepts}
 use Rattle.spines.specs.Heads.{Headings}
 use Rattle.changes.specs.Change.{Commits, Aborts}
 use Rattle.changes.specs.Claim.{Claims}
+use Rattle.convert.specs.Convert.{Converts}
 use Rattle.pair.specs.Pair.{PairOf}
 use Rattle.heaviest.specs.Heaviest.{HeaviestOf, HeaviestExactOf}
 use Rattle.listing.specs.Listing.{ListingOf, ListingExactOf}
 use Rattle.eight.specs.Call.{Call}
-use Rattle.eight.specs.Shown.{acceptanceInC, pairInC, heaviestInC, headsInC, listingInC, changeInC}
+use Rattle.eight.specs.Shown.{acceptanceInC, pairInC, heaviestInC, headsInC, listingInC, changeInC, conversionInC}
 
 -- a call leaves what an outcome that the operation's own promise allows is in C
 pub record ShowsInC {O : Type 0} (Promise : O → Type 0) (inC : O → Call) (c : Call) : Type 0 where
@@ -48,3 +49,6 @@ CommitCall s before run = ShowsInC (Commits s before run) changeInC
 
 abbrev pub AbortCall : List ℕ → List ℕ → ℕ → Call → Type 0
 AbortCall s before run = ShowsInC (Aborts s before run) changeInC
+
+abbrev pub ConvertCall : List ℕ → List ℕ → Call → Type 0
+ConvertCall s marks = ShowsInC (Converts s marks) conversionInC

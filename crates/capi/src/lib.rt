@@ -14,9 +14,11 @@ ghost use Rattle.capi.specs.Promises.{
   ClaimCall,
   CommitCall,
   AbortCall,
+  ConvertCall,
 };
 use eight::show_acceptance;
 use eight::show_change;
+use eight::show_conversion;
 use eight::show_heads;
 use eight::show_heaviest;
 use eight::show_page;
@@ -139,4 +141,13 @@ pub extern "C" fn hb_abort(s: &[u8], marks: &mut [u16], run: u16, answer: &mut [
 {
     let o = changes::abort(s, marks, run);
     show_change(o, answer)
+}
+
+// No fields; an old set of marks is only read.
+#[no_mangle]
+pub extern "C" fn hb_convert(s: &[u8], marks: &[u16], answer: &mut [i64; 8]) -> u8
+    ensures { λ r. ⌜ ConvertCall (now (s .entry)) (now (marks .entry)) (call r (now (answer .exit)) []) ⌝ }
+{
+    let o = convert::convert(s, marks);
+    show_conversion(o, answer)
 }

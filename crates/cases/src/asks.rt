@@ -5,6 +5,7 @@ use crate::read::Ask;
 use crate::say;
 use crate::say::Answer;
 use changes::Change;
+use convert::Conversion;
 use heaviest::HeaviestAnswer;
 use listing::Listed;
 use pair::PairAnswer;
@@ -97,6 +98,26 @@ fn between(o: HeaviestAnswer) -> Answer {
     }
 }
 
+fn converted(o: Conversion) -> Answer {
+    match o {
+        Conversion::Refused(why) => say::refused(why, 0),
+        Conversion::Converted => say::fine(0, 0, 0),
+    }
+}
+
+// What the mark of a row says: whether it is spent, and its run. Nothing where the row has none.
+fn mark_of(marks: &[u16], row: usize) -> Answer {
+    if row < marks.len() {
+        let mark = marks[row];
+        let run = marks::run_of(mark) as u64;
+        if marks::is_spent(mark) {
+            return say::fine(2, 1, run);
+        }
+        return say::fine(2, 0, run);
+    }
+    say::fine(2, 0, 0)
+}
+
 fn listed(o: Listed) -> Answer {
     match o {
         Listed::Refused(why) => say::refused(why, 2),
@@ -149,7 +170,9 @@ fn of_net(s: &[u8], marks: &[u16], q: Ask) -> Answer {
         17 => accepted(tree::accept(s)),
         18 => found(pair::pair(s, marks, q.a, q.b)),
         19 => between(heaviest::heaviest(s, marks)),
-        _ => between(heaviest::heaviest_exact(s, marks)),
+        20 => between(heaviest::heaviest_exact(s, marks)),
+        21 => converted(convert::convert(s, marks)),
+        _ => mark_of(marks, q.x as usize),
     }
 }
 

@@ -1,12 +1,12 @@
--- From what the loops did to what the promises say: a run's own marks, and the free branches of a path. And that a
+-- From what the loops along the climbs did to what claim's promise says: the free branches of the path. And that a
 -- change leaves one list of marks.
 use mathlib.Core.Path.{_≡_, refl, sym, _∙_}
 use mathlib.Core.Logic.{_⊎_, inl, inr, _≢_}
 use mathlib.Core.List.{List, [], _∷_, _++_}
-use Prim.Native.Nat.{ℕ, _+_, _-_, _≤_, _<_}
-use native.Mathlib.Decide.{ℕ-discrete, decLt}
+use Prim.Native.Nat.{ℕ, _+_, _-_, _≤_}
+use native.Mathlib.Decide.{ℕ-discrete}
 use native.Mathlib.Omega.{arith}
-use lib.ListN.{length, List·getD-eq-default}
+use lib.ListN.{length}
 use lib.Seq.{ext-getD}
 use Rattle.arrays.specs.At as filled
 use Rattle.table.specs.Refuse.{Only}
@@ -21,28 +21,12 @@ use Rattle.net.proofs.OnePath.{unique}
 use Rattle.net.proofs.RingExactly.{once}
 use Rattle.net.proofs.Counts.{count-same, count-unique, count-some}
 use Rattle.net.proofs.Rises.{TwoRises}
-use Rattle.marks.specs.Mark.{free, HeldBy, RunNumber}
 use Rattle.marks.specs.work.Measured.{one-free, Frees}
 use Rattle.changes.specs.Change.{Changes, Done}
 use Rattle.changes.specs.declared.Change.the-variants.{Changed, Refused}
 use Rattle.changes.specs.Claim.{PathBetween, InReach, Taken}
-use Rattle.changes.specs.work.Replace.{HoldsOld}
 use Rattle.changes.specs.work.Climbs.{Held}
 use Rattle.changes.proofs.Held.{FreeIn, frees-count}
-
--- places that hold a run's number are branches that the run holds
-pub holds-held : {run m : ℕ} {before after : List ℕ} {k : ℕ} → RunNumber run
-    → Changes (HoldsOld before run) m before after k → Changes (λ r. HeldBy run (filled.at before r)) m before after k
-holds-held {run} {m} {before} {after} N c = record {
-  same-many = c .same-many;
-  becomes = λ r e. c .becomes r (place r e (decLt r (length before)));
-  stays = λ r n. c .stays r (λ h. n (h .is));
-  count = count-same (λ r h. h .is) (λ r e. place r e (decLt r (length before))) (c .count);
-}
-  where
-    place : (r : ℕ) → HeldBy run (filled.at before r) → Dec (r < length before) → HoldsOld before run r
-    place r e (yes l) = record { fits = l; is = e }
-    place r e (no l) = absurd (omega (arith, N .above, e, List·getD-eq-default before 0 {n = r} (omega arith)))
 
 -- One outcome
 changes-marks : {P : ℕ → Type 0} {m : ℕ} {before x y : List ℕ} {j k : ℕ} → Changes P m before x j

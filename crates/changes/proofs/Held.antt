@@ -1,5 +1,4 @@
--- How marks change: row after row along a climb, where a free one is taken; and place after place, where one that holds
--- a number gets another.
+-- How marks change along a climb, row after row: a free one is taken.
 use mathlib.Core.Path.{_≡_, refl, sym, ap, _∙_}
 use mathlib.Core.Logic.{_⊎_, inl, inr, _≢_, ⊎-elim}
 use mathlib.Core.List.{List, [], _∷_, _++_}

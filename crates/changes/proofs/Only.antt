@@ -13,10 +13,10 @@ settles-only : (m : ℕ) (s before : List ℕ) (run : ℕ) → Only (Settles m s
 settles-only m s before run = begins-only (changeRefusal before) s (unless-only (unless-only (done-only _ m before)))
 
 pub commit-only : (s before : List ℕ) (run : ℕ) → Only (Commits s before run)
-commit-only = settles-only _
+commit-only s before run = settles-only _ s before run
 
 pub abort-only : (s before : List ℕ) (run : ℕ) → Only (Aborts s before run)
-abort-only = settles-only _
+abort-only s before run = settles-only _ s before run
 
 pub claim-only : (s before : List ℕ) (run a b : ℕ) → Only (Claims s before run a b)
 claim-only s before run a b =

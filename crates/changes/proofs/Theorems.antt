@@ -1,7 +1,8 @@
--- What a reader of demand 2 looks for: claim, commit and abort change exactly the marks named, and a claim's two nodes
--- may stand in either order. Each is read off the promises, of an answer `Changed k`: nothing was refused.
+-- What a reader of demand 2 looks for: claim, commit and abort change exactly the marks named, what a commit leaves
+-- tells by whom a branch is spent, and a claim's two nodes may stand in either order. Each is read off the promises, of
+-- an answer `Changed k`: nothing was refused.
 use mathlib.Core.Path.{_≡_, sym, ap, _∙_}
-use mathlib.Core.Logic.{_≢_}
+use mathlib.Core.Logic.{_⊎_, inl, inr}
 use mathlib.Core.List.{List}
 use Prim.Native.Nat.{ℕ}
 use native.Mathlib.Decide.{ℕ-discrete}
@@ -13,7 +14,9 @@ use Rattle.table.proofs.Refusals.{past, unless-map, unless-alike}
 use Rattle.tree.proofs.Begins.{begins-past, begins-map}
 use Rattle.net.proofs.Flip.{two-flip}
 use Rattle.net.proofs.Counts.{count-none, count-unique}
-use Rattle.marks.specs.Mark.{free, spent, Free, HeldBy, RunNumber}
+use Rattle.marks.specs.Mark.{free, spend, Free, HeldBy, SpentBy, RunNumber}
+use Rattle.marks.proofs.Readings.{held?, held-not-free, spent-not-free, held-not-spent, own-held, own-spent}
+use Rattle.marks.proofs.Weights.{Alike}
 use Rattle.changes.specs.Change.{changeRefusal, Changes, Settles, Commits, Aborts}
 use Rattle.changes.specs.Claim.{Taken, Claims}
 use Rattle.changes.specs.declared.Change.{Change}
@@ -36,7 +39,7 @@ module _ (s before : List ℕ) {after : List ℕ} {k : ℕ} where
       past (plain before 14 0 0) (a .1)
 
   pub committed : {run : ℕ} → Commits s before run (Changed k, after)
-      → RunNumber run × Changes (λ r. HeldBy run (at before r)) spent before after k
+      → RunNumber run × Changes (λ r. HeldBy run (at before r)) (spend run) before after k
   committed = settled
 
   pub aborted : {run : ℕ} → Aborts s before run (Changed k, after)
@@ -54,9 +57,49 @@ module _ (s before : List ℕ) {after : List ℕ} {k : ℕ} where
       (y .0, past (plain before 19 0 0) (u .1) .1)
 
   -- A CLAIM NEVER TOUCHES A MARK THAT WAS NOT FREE
-  pub claim-keeps : {run a b : ℕ} → Claims s before run a b (Changed k, after) → (r : ℕ) → (Free (at before r) → ⊥)
+  pub claim-leaves : {run a b : ℕ} → Claims s before run a b (Changed k, after) → (r : ℕ) → (Free (at before r) → ⊥)
       → at after r ≡ at before r
-  claim-keeps p r n = claimed p .1 .stays r (λ t. n (t .free))
+  claim-leaves p r n = claimed p .1 .stays r (λ t. n (t .free))
+
+  -- WHAT IS SPENT STAYS, by whomever: no commit and no abort touches it
+  settled-leaves : {m run other : ℕ} → Settles m s before run (Changed k, after) → (r : ℕ)
+      → SpentBy other (at before r) → at after r ≡ at before r
+  settled-leaves p r t = settled p .1 .stays r (λ h. held-not-spent h t)
+
+  pub commit-leaves-spent : {run other : ℕ} → Commits s before run (Changed k, after) → (r : ℕ)
+      → SpentBy other (at before r) → at after r ≡ at before r
+  commit-leaves-spent = settled-leaves
+
+  pub abort-leaves-spent : {run other : ℕ} → Aborts s before run (Changed k, after) → (r : ℕ)
+      → SpentBy other (at before r) → at after r ≡ at before r
+  abort-leaves-spent = settled-leaves
+
+  module _ {run : ℕ} (p : Commits s before run (Changed k, after)) where
+    -- A COMMIT SETS THE TOP BIT of what the run held
+    pub commit-sets : (r : ℕ) → HeldBy run (at before r) → at after r ≡ spend (at before r)
+    commit-sets r h = let c = committed p in c .1 .becomes r h ∙ omega (arith, h .keeps, c .0 .below)
+
+    -- so that it reads as spent by that run
+    pub commit-spends : (r : ℕ) → HeldBy run (at before r) → SpentBy run (at after r)
+    commit-spends r h = let c = committed p in rw (c .1 .becomes r h) (own-spent (c .0))
+
+    -- and nothing else reads so that did not before
+    pub commit-spends-only : (r : ℕ) → SpentBy run (at after r)
+        → HeldBy run (at before r) ⊎ SpentBy run (at before r)
+    commit-spends-only r t = pick (held? run (at before r))
+      where
+        pick : Dec (HeldBy run (at before r)) → HeldBy run (at before r) ⊎ SpentBy run (at before r)
+        pick (yes h) = inl h
+        pick (no n) = inr (rw (committed p .1 .stays r n) at t)
+
+    -- the marks before and after are free at the same places: so no pair, heaviest or listing answer tells of a commit
+    pub commit-alike : Alike before after
+    commit-alike r = pick (held? run (at before r))
+      where
+        pick : Dec (HeldBy run (at before r))
+            → (Free (at before r) → Free (at after r)) × (Free (at after r) → Free (at before r))
+        pick (yes h) = (λ f. absurd (held-not-free h f), λ f. absurd (spent-not-free (commit-spends r h) f))
+        pick (no n) = let e = committed p .1 .stays r n in (λ f. e ∙ f, λ f. sym e ∙ f)
 
 -- A CLAIM TAKES ITS TWO NODES IN EITHER ORDER
 pub claim-either : (s before : List ℕ) {run a b : ℕ} {o : Change × List ℕ} → Claims s before run a b o
@@ -69,7 +112,7 @@ claim-either s before p =
 pub claim-abort : (s before mid after : List ℕ) {run a b j k : ℕ} → ((r : ℕ) → HeldBy run (at before r) → ⊥)
     → Claims s before run a b (Changed j, mid) → Aborts s mid run (Changed k, after) → after ≡ before
 claim-abort s before mid after {run} {a} {b} {j} {k} none p t =
-    ext-getD 0 after before (y .same-many ∙ x .same-many) (λ r l. each r (ℕ-discrete (at mid r) run))
+    ext-getD 0 after before (y .same-many ∙ x .same-many) (λ r l. each r (held? run (at mid r)))
   where
     x : Changes (Taken s before (nodesOf s) a b) run before mid j
     x = claimed s before p .1
@@ -79,15 +122,15 @@ claim-abort s before mid after {run} {a} {b} {j} {k} none p t =
 
     -- what the run holds afterwards it took, and it took what was free
     was-free : (r : ℕ) → HeldBy run (at mid r) → Dec (Free (at before r)) → Free (at before r)
-    was-free r e (yes f) = f
-    was-free r e (no n) = absurd (none r (sym (x .stays r (λ k. n (k .free))) ∙ e))
+    was-free r h (yes f) = f
+    was-free r h (no n) = absurd (none r (rw (x .stays r (λ k. n (k .free))) at h))
 
     -- what it does not hold afterwards it did not take
-    kept : (r : ℕ) → at mid r ≢ run → at mid r ≡ at before r
-    kept r n = x .stays r (λ k. n (x .becomes r k))
+    kept : (r : ℕ) → (HeldBy run (at mid r) → ⊥) → at mid r ≡ at before r
+    kept r n = x .stays r (λ k. n (own-held (claimed s before p .0) (x .becomes r k)))
 
-    each : (r : ℕ) → Dec (at mid r ≡ run) → at after r ≡ at before r
-    each r (yes e) = y .becomes r e ∙ sym (was-free r e (ℕ-discrete (at before r) 0))
+    each : (r : ℕ) → Dec (HeldBy run (at mid r)) → at after r ≡ at before r
+    each r (yes h) = y .becomes r h ∙ sym (was-free r h (ℕ-discrete (at before r) 0))
     each r (no n) = y .stays r n ∙ kept r n
 
 -- AFTER COMMIT, ABORT of the same run changes nothing
@@ -98,18 +141,13 @@ commit-abort s before mid after {run} {j} {k} p t = (
   count-unique (y .count) (count-none none),
 )
   where
-    N : RunNumber run
-    N = committed s before p .0
-
-    x : Changes (λ r. HeldBy run (at before r)) spent before mid j
-    x = committed s before p .1
-
     y : Changes (λ r. HeldBy run (at mid r)) free mid after k
     y = aborted s mid t .1
 
-    held? : (r : ℕ) → Dec (at before r ≡ run) → at mid r ≡ run → ⊥
-    held? r (yes e) f = omega (arith, x .becomes r e, N .below)
-    held? r (no n) f = n (sym (x .stays r n) ∙ f)
-
+    -- what it held is spent, and what it did not hold stayed
     none : (r : ℕ) → HeldBy run (at mid r) → ⊥
-    none r e = held? r (ℕ-discrete (at before r) run) e
+    none r h = pick (held? run (at before r))
+      where
+        pick : Dec (HeldBy run (at before r)) → ⊥
+        pick (yes g) = held-not-spent h (commit-spends s before p r g)
+        pick (no n) = n (rw (committed s before p .1 .stays r n) at h)

@@ -9,7 +9,7 @@ use Rattle.table.specs.Refuse.{Unless}
 use Rattle.table.specs.Header.{nodesOf}
 use Rattle.net.specs.Count.{Count}
 use Rattle.tree.specs.Accept.{Begins}
-use Rattle.marks.specs.Mark.{free, spent, HeldBy, RunNumber}
+use Rattle.marks.specs.Mark.{free, spend, HeldBy, RunNumber}
 use Rattle.changes.specs.declared.Change.{Change}
 use Rattle.changes.specs.declared.Change.the-variants.{Changed, Refused}
 
@@ -36,16 +36,16 @@ MarksAndRun n before run rest =
     (Unless (Change × List ℕ) (changeRefusal before 14 0 0) (RunNumber run)
     rest)
 
--- each branch held by the run becomes m
+-- each branch that the run holds, unspent, becomes m
 abbrev pub Settling : ℕ → ℕ → List ℕ → ℕ → Change × List ℕ → Type 0
 Settling m n before run = MarksAndRun n before run (Done (λ r. HeldBy run (at before r)) m before)
 
 abbrev pub Settles : ℕ → List ℕ → List ℕ → ℕ → Change × List ℕ → Type 0
 Settles m s before run = Begins (Change × List ℕ) (changeRefusal before) s (Settling m (nodesOf s) before run)
 
--- commit: spent; abort: free
+-- commit: spent, the run staying in the mark; abort: free
 abbrev pub Commits : List ℕ → List ℕ → ℕ → Change × List ℕ → Type 0
-Commits = Settles spent
+Commits s before run = Settles (spend run) s before run
 
 abbrev pub Aborts : List ℕ → List ℕ → ℕ → Change × List ℕ → Type 0
-Aborts = Settles free
+Aborts s before run = Settles free s before run

@@ -9,8 +9,8 @@ ghost use Rattle.marks.specs.Mark.{free};
 ghost use Rattle.changes.specs.Claim.{Claiming, Ended};
 ghost use Rattle.changes.specs.work.Climbs.{Takes, ClimbHeld, ClaimReady};
 use crate::Change;
+use crate::runs::not_a_run;
 use marks::FREE;
-use marks::SPENT;
 use marks::measure_climb;
 use tree::Refusal;
 
@@ -135,14 +135,7 @@ pub(crate) fn claim_pair(
             ring: 0,
         });
     }
-    if run == FREE {
-        return Change::Refused(Refusal {
-            number: 14,
-            row: 0,
-            ring: 0,
-        });
-    }
-    if run == SPENT {
+    if not_a_run(run) {
         return Change::Refused(Refusal {
             number: 14,
             row: 0,

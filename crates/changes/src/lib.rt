@@ -4,11 +4,12 @@ ghost use Rattle.changes.specs.Claim.{Claims};
 use crate::along::claim_pair;
 use crate::settle::settle;
 use marks::FREE;
-use marks::SPENT;
+use marks::spend;
 use tree::Acceptance;
 use tree::Refusal;
 
 mod along;
+mod runs;
 mod settle;
 
 // How many marks an operation changed, or why it did nothing.
@@ -47,14 +48,15 @@ pub fn claim(s: &[u8], marks: &mut [u16], run: u16, a: u16, b: u16) -> Change
     }
 }
 
-// Each branch held by the run becomes spent.
+// Each branch that the run holds, unspent, becomes spent, and its mark keeps the run.
 pub fn commit(s: &[u8], marks: &mut [u16], run: u16) -> Change
     ensures { λ r. ⌜ Commits (now (s .entry)) (now (marks .entry)) run (r, now (marks .exit)) ⌝ }
 {
-    settle(s, marks, run, SPENT)
+    // What a run holds has the run's own number as its mark, so this is that mark with its top bit set.
+    settle(s, marks, run, spend(run))
 }
 
-// Each branch held by the run becomes free.
+// Each branch that the run holds, unspent, becomes free.
 pub fn abort(s: &[u8], marks: &mut [u16], run: u16) -> Change
     ensures { λ r. ⌜ Aborts (now (s .entry)) (now (marks .entry)) run (r, now (marks .exit)) ⌝ }
 {

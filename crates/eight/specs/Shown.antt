@@ -9,6 +9,8 @@ use Rattle.spines.specs.declared.HeadsAnswer.{HeadsAnswer}
 use Rattle.spines.specs.declared.HeadsAnswer.the-variants as heads
 use Rattle.changes.specs.declared.Change.{Change}
 use Rattle.changes.specs.declared.Change.the-variants as change
+use Rattle.convert.specs.declared.Conversion.{Conversion}
+use Rattle.convert.specs.declared.Conversion.the-variants as conversion
 use Rattle.pair.specs.declared.PairAnswer.{PairAnswer}
 use Rattle.pair.specs.declared.PairAnswer.the-variants as pair
 use Rattle.heaviest.specs.declared.HeaviestAnswer.{HeaviestAnswer}
@@ -50,3 +52,8 @@ listingInC (listing.Refused why, rows) = refusalInC why rows
 abbrev pub changeInC : Change × List ℕ → Call
 changeInC (change.Changed count, marks) = inC 0 0 0 (pos count) (pos 0) (pos 0) (pos 0) marks
 changeInC (change.Refused why, marks) = refusalInC why marks
+
+-- no fields, and no memory is lent to be written
+abbrev pub conversionInC : Conversion → Call
+conversionInC conversion.Converted = inC 0 0 0 (pos 0) (pos 0) (pos 0) (pos 0) []
+conversionInC (conversion.Refused why) = refusalInC why []

@@ -6,11 +6,28 @@ ghost use mathlib.Core.Path.{_≡_};
 ghost use mathlib.Core.List.{List, []};
 ghost use Prim.Native.Nat.{ℕ};
 ghost use Rattle.eight.specs.Call.{call};
-ghost use Rattle.eight.specs.Shown.{acceptanceInC, pairInC, heaviestInC, headsInC, listingInC, changeInC};
-ghost use Rattle.eight.specs.work.Room.{AcceptanceRoom, PairRoom, HeaviestRoom, HeadsRoom, PageRoom, ChangeRoom};
+ghost use Rattle.eight.specs.Shown.{
+  acceptanceInC,
+  pairInC,
+  heaviestInC,
+  headsInC,
+  listingInC,
+  changeInC,
+  conversionInC,
+};
+ghost use Rattle.eight.specs.work.Room.{
+  AcceptanceRoom,
+  PairRoom,
+  HeaviestRoom,
+  HeadsRoom,
+  PageRoom,
+  ChangeRoom,
+  ConversionRoom,
+};
 use crate::answer::fill;
 use crate::answer::refuse;
 use changes::Change;
+use convert::Conversion;
 use heaviest::HeaviestAnswer;
 use listing::Listed;
 use pair::PairAnswer;
@@ -104,5 +121,16 @@ pub fn show_change(o: Change, answer: &mut [i64; 8]) -> u8
     match o {
         Change::Refused(why) => refuse(why, answer),
         Change::Changed(count) => { fill(answer, 0, 0, 0, count as i64, 0, 0, 0) }
+    }
+}
+
+// What convert gave: the refusal, or no fields.
+pub fn show_conversion(o: Conversion, answer: &mut [i64; 8]) -> u8
+    requires { ⌜ ConversionRoom o ⌝ }
+    ensures { λ r. ⌜ call r (now (answer .exit)) [] ≡ conversionInC o ⌝ }
+{
+    match o {
+        Conversion::Refused(why) => refuse(why, answer),
+        Conversion::Converted => fill(answer, 0, 0, 0, 0, 0, 0, 0),
     }
 }

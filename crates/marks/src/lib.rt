@@ -1,15 +1,38 @@
-// Marks: free, held by a run, spent; what a marked branch weighs; and a climb's length, weight and free branches.
+// Marks: free, or held or spent by a run; what a marked branch weighs; and a climb's length, weight and free branches.
 ghost use mathlib.Core.Path.{_≡_};
 ghost use Prim.Native.Nat.{min};
+ghost use lib.Dec.{leb};
 ghost use lib.ListN.{length};
 ghost use Rattle.net.specs.work.Net.{Net};
 ghost use Rattle.net.specs.work.Rise.{WalkClimb};
+ghost use Rattle.marks.specs.Mark.{top, runOf, spend};
 ghost use Rattle.marks.specs.work.Lifted.{LiftedUnder};
 ghost use Rattle.marks.specs.work.Measured.{one-free, Measured};
 
 pub const FREE: u16 = 0;
 
-pub const SPENT: u16 = 65535;
+// The run that stands for "unknown"; every run's own number is below it.
+pub const UNKNOWN: u16 = 0x7fff;
+
+// The run that a mark keeps, held or spent.
+pub fn run_of(mark: u16) -> u16
+    ensures { λ r. ⌜ r ≡ runOf mark ⌝ }
+{
+    mark & 0x7fff
+}
+
+pub fn is_spent(mark: u16) -> bool
+    ensures { λ r. ⌜ r ≡ leb top mark ⌝ }
+{
+    0x8000 <= mark
+}
+
+// The mark with its top bit set: spent, and the run stays.
+pub fn spend(mark: u16) -> u16
+    ensures { λ r. ⌜ r ≡ spend mark ⌝ }
+{
+    mark | 0x8000
+}
 
 // A row's weight under its mark, lifted by 1,000,000. Any table, marks and row number.
 pub fn lifted_under(s: &[u8], marks: &[u16], row: usize) -> u32

@@ -56,7 +56,7 @@ module _ (way : ℕ → ℕ → List ℕ) (s before : List ℕ) (run a b : ℕ) 
   -- what is tested before the path is looked at, and that the way is the path
   abbrev path-tests : List Bool
   path-tests =
-      accepted? s ∷ eqb (length before) (nodesOf s - 1) ∷ ltb 0 run ∷ ltb run 65535 ∷ ltb a (nodesOf s)
+      accepted? s ∷ eqb (length before) (nodesOf s - 1) ∷ ltb 0 run ∷ ltb run 32767 ∷ ltb a (nodesOf s)
       ∷ ltb b (nodesOf s) ∷ not (eqb a b) ∷ path? s a rs b ∷ []
 
   along : T (every path-tests) → (x : Change × List ℕ)

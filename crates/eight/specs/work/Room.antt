@@ -6,6 +6,8 @@ use Rattle.spines.specs.declared.HeadsAnswer.{HeadsAnswer}
 use Rattle.spines.specs.declared.HeadsAnswer.the-variants as heads
 use Rattle.changes.specs.declared.Change.{Change}
 use Rattle.changes.specs.declared.Change.the-variants as change
+use Rattle.convert.specs.declared.Conversion.{Conversion}
+use Rattle.convert.specs.declared.Conversion.the-variants as conversion
 use Rattle.pair.specs.declared.PairAnswer.{PairAnswer}
 use Rattle.pair.specs.declared.PairAnswer.the-variants as pair
 use Rattle.heaviest.specs.declared.HeaviestAnswer.{HeaviestAnswer}
@@ -38,6 +40,10 @@ HeadsRoom (heads.Refused why) = Room (why .row) (why .ring)
 abbrev pub ChangeRoom : Change → Type 0
 ChangeRoom (change.Changed count) = Unit {0}
 ChangeRoom (change.Refused why) = Room (why .row) (why .ring)
+
+abbrev pub ConversionRoom : Conversion → Type 0
+ConversionRoom conversion.Converted = Unit {0}
+ConversionRoom (conversion.Refused why) = Room (why .row) (why .ring)
 
 -- of a page also counts of 63 bits
 abbrev pub PageRoom : Listed → Type 0

@@ -26,39 +26,40 @@ marked : (c : tie.Else1)
     → length (c .before .before .before .before .args .marks .now) ≡ c .before .before .before .before .args .nodes - 1
 marked c = omega (arith, c .if1 .left, c .before .wide .ensures .0)
 
+not-a-run-requires : tie.Need-not-a-run-requires
+not-a-run-requires c κs = search needs
+
 returns-2 : tie.Need-returns-2
-returns-2 c = passed (marked (c .before)) (refused (λ n. omega (arith, n .above)))
+returns-2 c =
+    passed (marked (c .before .before)) (refused (c .before .not-a-run .ensures .0 (c .if2 .taken)))
+
+numbered : (c : tie.Else2) → RunNumber (c .before .before .before .before .before .before .args .run)
+numbered c = c .before .not-a-run .ensures .1 (c .if2 .left)
 
 returns-3 : tie.Need-returns-3
-returns-3 c = passed (marked (c .before .before)) (refused (λ n. omega (arith, n .below)))
-
-numbered : (c : tie.Else3) → RunNumber (c .before .before .before .before .before .before .args .run)
-numbered c = record { above = omega (arith, c .before .if2 .left); below = omega (arith, c .if3 .left) }
-
-returns-4 : tie.Need-returns-4
-returns-4 c =
+returns-3 c =
     passed (marked (c .before .before .before))
     (passed (numbered (c .before)) (refused (λ p. omega (arith, p .first))))
 
-returns-5 : tie.Need-returns-5
-returns-5 c =
+returns-4 : tie.Need-returns-4
+returns-4 c =
     passed (marked (c .before .before .before .before))
     (passed (numbered (c .before .before)) (refused (λ p. omega (arith, p .second))))
 
-returns-6 : tie.Need-returns-6
-returns-6 c =
+returns-5 : tie.Need-returns-5
+returns-5 c =
     passed (marked (c .before .before .before .before .before))
-    (passed (numbered (c .before .before .before)) (refused (λ p. p .apart (c .if6 .taken))))
+    (passed (numbered (c .before .before .before)) (refused (λ p. p .apart (c .if5 .taken))))
 
-two : (c : tie.Else6)
+two : (c : tie.Else5)
     → TwoNodes (c .before .before .before .before .before .before .before .before .before .args .nodes)
     (c .before .before .before .before .before .before .before .before .before .args .a)
     (c .before .before .before .before .before .before .before .before .before .args .b)
 two c =
     record {
-      first = omega (arith, c .before .before .if4 .left);
-      second = omega (arith, c .before .if5 .left);
-      apart = c .if6 .left;
+      first = omega (arith, c .before .before .if3 .left);
+      second = omega (arith, c .before .if4 .left);
+      apart = c .if5 .left;
     }
 
 claim-walked-requires : tie.Need-claim-walked-requires
@@ -74,8 +75,8 @@ claim-walked-requires c κs =
 same-length : tie.Need-same-length
 same-length c = search needs
 
-returns-7 : tie.Need-returns-7
-returns-7 c =
+returns-6 : tie.Need-returns-6
+returns-6 c =
     let past = c .before .before .before .before .before .before .before .before in
     passed (marked (past .before .before .before .before .before))
     (passed (numbered (past .before .before .before)) (passed (two past) (c .before .before .claim-walked .ensures)))
@@ -87,11 +88,11 @@ claim-pair-spec =
     add-if1
     wide-requires
     returns
+    not-a-run-requires
     returns-2
     returns-3
     returns-4
     returns-5
-    returns-6
     claim-walked-requires
     same-length
-    returns-7)
+    returns-6)
