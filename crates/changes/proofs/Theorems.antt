@@ -92,7 +92,7 @@ module _ (s before : List ℕ) {after : List ℕ} {k : ℕ} where
         pick (yes h) = inl h
         pick (no n) = inr (rw (committed p .1 .stays r n) at t)
 
-    -- the marks before and after are free at the same places: so no pair, heaviest or listing answer tells of a commit
+    -- the marks before and after are free at the same places
     pub commit-alike : Alike before after
     commit-alike r = pick (held? run (at before r))
       where
