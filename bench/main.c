@@ -4,11 +4,12 @@
 #include "hourbench.h"
 #include "nets.h"
 #include "scan.h"
+#include "timing.h"
+#include "trades.h"
 #include <math.h>
 #include <stdio.h>
 #include <stdlib.h>
 #include <string.h>
-#include <time.h>
 
 enum { SIZES = 3, PAGE = 65536 };
 /* The operations that are measured, and from OPS on those that are only compared; 2: of the table of version 2. */
@@ -64,26 +65,28 @@ static void call(int op, int library, uint16_t a, uint16_t b, int64_t answer[8])
     }
 }
 
-static double now(void) {
-    struct timespec t;
-    clock_gettime(CLOCK_PROCESS_CPUTIME_ID, &t);
-    return (double)t.tv_sec + 1e-9 * (double)t.tv_nsec;
+/* An operation, by the scan or the library, between two nodes; its answer. */
+typedef struct {
+    int op, library;
+    uint16_t a, b;
+    int64_t answer[8];
+} asked;
+
+static void next_nodes(void *with) {
+    asked *q = with;
+    q->a = (uint16_t)(next_number(&seed) % n);
+    q->b = (uint16_t)((q->a + 1 + next_number(&seed) % (n - 1)) % n);
 }
 
-/* The second least processor time of a call, over calls for a fifth of a second or three calls, whichever is more: now
-   and then a shared host's clock stands still for a call, so the least alone would not do. */
-static double measure(int op, int library, int64_t answer[8]) {
-    double least = 1e9, second = 1e9, begun = now();
+static void call_asked(void *with) {
+    asked *q = with;
+    call(q->op, q->library, q->a, q->b, q->answer);
+}
+
+static double measure(int op, int library) {
+    asked q = {.op = op, .library = library};
     seed = 77;
-    for (int i = 0; i < 3 || now() - begun < 0.2; i++) {
-        uint16_t a = (uint16_t)(next_number(&seed) % n), b = (uint16_t)((a + 1 + next_number(&seed) % (n - 1)) % n);
-        double from = now();
-        call(op, library, a, b, answer);
-        double t = now() - from;
-        if (t < least) second = least, least = t;
-        else if (t < second) second = t;
-    }
-    return second;
+    return second_least(next_nodes, call_asked, &q);
 }
 
 /* Equal answers, page and marks; for pair on fifty pairs. Leaves the marks as they were. */
@@ -92,11 +95,12 @@ static void compare(int op, const char *shape) {
     memcpy(before, marks_scan, sizeof before);
     seed = 78;
     for (int i = 0; i < (op == PAIR || op == PAIR_2 ? 50 : 1); i++) {
-        uint16_t a = (uint16_t)(next_number(&seed) % n), b = (uint16_t)((a + 1 + next_number(&seed) % (n - 1)) % n);
-        int64_t x[8], y[8];
-        call(op, 0, a, b, x);
-        call(op, 1, a, b, y);
-        if (memcmp(x, y, sizeof x) || memcmp(page_scan, page_library, PAGE) ||
+        asked q = {.op = op};
+        int64_t y[8];
+        next_nodes(&q);
+        call_asked(&q);
+        call(op, 1, q.a, q.b, y);
+        if (memcmp(q.answer, y, sizeof y) || memcmp(page_scan, page_library, PAGE) ||
             memcmp(marks_scan, marks_library, sizeof marks_scan)) {
             printf("DIFFERENT: %s of %s with %zu nodes\n", op_names[op], shape, n);
             differ = 1;
@@ -208,9 +212,8 @@ static void measure_equal(void) {
         take_net(s, sizes[SIZES - 1], EQUAL);
         fprintf(stderr, "bench: %s, %zu nodes, all lengths equal\n", shape_names[s], n);
         for (int op = HEAVIEST; op <= LISTING_EXACT; op++) {
-            int64_t answer[8];
             compare(op, shape_names[s]);
-            equal_took[s][op] = measure(op, 1, answer);
+            equal_took[s][op] = measure(op, 1);
         }
     }
 }
@@ -247,9 +250,8 @@ int main(int argc, char **argv) {
             fprintf(stderr, "bench: %d of %d: %s, %zu nodes\n", s * SIZES + z + 1, SHAPES * SIZES, shape_names[s], n);
             compare_marked(shape_names[s]);
             for (int op = 0; op < ALL; op++) {
-                int64_t answer[8];
                 compare(op, shape_names[s]);
-                for (int w = 0; w < 2 && op < OPS; w++) took[s][z][op][w] = measure(op, w, answer);
+                for (int w = 0; w < 2 && op < OPS; w++) took[s][z][op][w] = measure(op, w);
             }
         }
     measure_equal();
@@ -269,6 +271,7 @@ int main(int argc, char **argv) {
         printf("\n");
     }
     print_modes();
+    differ |= measure_trades();
     printf("%s\n", differ ? "ANSWERS DIFFER" : "All answers were equal.");
     plot(argv[1], argv[2]);
     return differ;

@@ -64,6 +64,20 @@ size_t make_net(int shape, size_t n, enum lengths lengths, uint8_t table[12 * 40
     return 12 * n;
 }
 
+size_t make_grid_tree(size_t side, uint8_t table[12 * 4096]) {
+    uint64_t seed = side;
+    size_t n = side * side;
+    memcpy(table, "RTN\1\0", 5);
+    put(table + 5, n, 3), put(table + 8, 500 * side, 4);
+    for (size_t x = 1; x < n; x++) {
+        size_t beside = x < side || (x % side && next_number(&seed) % 2), up = beside ? x - 1 : x - side;
+        uint8_t *row = table + 12 * x;
+        put(row, up, 2), put(row + 2, x, 2), put(row + 4, 1 + next_number(&seed) % 1000, 4);
+        put(row + 8, (uint64_t)((int64_t)(next_number(&seed) % 201) - 100), 4);
+    }
+    return 12 * n;
+}
+
 void weigh_by_kind(size_t n, uint8_t table[12 * 4096]) {
     uint64_t seed = n;
     put(table + 3, 2, 2);

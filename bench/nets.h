@@ -19,6 +19,11 @@ enum lengths { VARIED, EQUAL };
    length. Gives the table's size. */
 size_t make_net(int shape, size_t n, enum lengths lengths, uint8_t table[12 * 4096]);
 
+/* Writes the table of a tree that spans a planar grid of so many rows and columns, 2 to 64, node after node: each but
+   the first hangs from the one before it or the one above it. Lengths 1 to 1,000, weights -100 to 100, some bound.
+   Gives the table's size. */
+size_t make_grid_tree(size_t side, uint8_t table[12 * 4096]);
+
 /* Of a net's table, the one of version 2 with kinds and counts at random in place of the weights. They lie from -100 to
    100 again, about 0: of six rows three have kinds that score, one has filler and two have blocked ground. */
 void weigh_by_kind(size_t n, uint8_t table[12 * 4096]);

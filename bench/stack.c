@@ -1,5 +1,6 @@
 /* How much stack each operation takes: on a thread whose stack was painted, over the five nets of 4,096 nodes
-   in both versions and the same with a ring; the most is told. */
+   in both versions and the same with a ring, over the texts of each net and over texts of more arcs than a net has;
+   the most is told. */
 #include "hourbench.h"
 #include "nets.h"
 #include <pthread.h>
@@ -7,13 +8,13 @@
 #include <stdlib.h>
 #include <string.h>
 
-enum { STACK = 2 << 20, NODES = 4096, OPS = 12, PAINT = 0xA5 };
+enum { STACK = 2 << 20, NODES = 4096, TEXT = 1 << 18, OPS = 14, PAINT = 0xA5 };
 static const char *names[OPS] = {"(the thread itself)", "hb_accept", "hb_pair", "hb_heaviest", "hb_heaviest_exact",
                                  "hb_heads", "hb_listing", "hb_listing_exact", "hb_claim", "hb_commit", "hb_abort",
-                                 "hb_convert"};
-static uint8_t table[12 * NODES], page[65536];
+                                 "hb_convert", "hb_dimacs_read", "hb_dimacs_write"};
+static uint8_t table[12 * NODES], made[12 * NODES], page[65536], lengths[TEXT], weights[TEXT], text[TEXT], other[TEXT];
 static uint16_t marks[NODES], heads[NODES];
-static size_t size;
+static size_t size, lengths_len, weights_len;
 
 static void *call(void *which) {
     int64_t answer[8];
@@ -30,6 +31,8 @@ static void *call(void *which) {
     case 9: hb_commit(table, size, marks, m, 7, answer); break;
     case 10: hb_abort(table, size, marks, m, 7, answer); break;
     case 11: hb_convert(table, size, marks, m, answer); break;
+    case 12: hb_dimacs_read(lengths, lengths_len, weights, weights_len, 0, made, sizeof made, answer); break;
+    case 13: hb_dimacs_write(table, size, text, TEXT, other, TEXT, answer); break;
     }
     return NULL;
 }
@@ -52,16 +55,31 @@ static int take(uint8_t *stack, size_t most[OPS]) {
     return 0;
 }
 
+/* Every pair of 100 nodes as a branch: 9,900 arcs. */
+static void take_all_pairs(void) {
+    char *s = (char *)lengths;
+    s += sprintf(s, "p sp 100 9900\n");
+    for (int a = 2; a <= 100; a++)
+        for (int b = 1; b < a; b++) s += sprintf(s, "a %d %d 7\na %d %d 7\n", a, b, b, a);
+    lengths_len = weights_len = (size_t)(s - (char *)lengths);
+    memcpy(weights, lengths, lengths_len);
+}
+
 int main(void) {
     size_t most[OPS] = {0};
     uint8_t *stack = aligned_alloc(4096, STACK);
     for (int net = 0; net < 2 * SHAPES; net++) {
+        int64_t answer[8];
         size = make_net(net / 2, NODES, VARIED, table);
+        if (hb_dimacs_write(table, size, lengths, TEXT, weights, TEXT, answer)) return 2;
+        lengths_len = (size_t)answer[3], weights_len = (size_t)answer[4];
         if (net % 2) weigh_by_kind(NODES, table);
         if (take(stack, most)) return 2;
         close_ring(NODES, table);
         if (take(stack, most)) return 2;
     }
+    take_all_pairs();
+    if (take(stack, most)) return 2;
     printf("| operation | stack, KiB |\n|---|---|\n");
     for (int op = 1; op < OPS; op++) printf("| `%s` | %zu |\n", names[op], (most[op] - most[0] + 1023) / 1024);
     return 0;

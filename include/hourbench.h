@@ -15,9 +15,9 @@
    - No pointer is null, also where the length is 0: any address that suits the type does for nothing.
    - Each pointer is aligned for its type, and the elements that its length counts are there, initialised and readable;
      `answer` has 8. A parameter without `const` is writable.
-   - Memory that is written (`heads`, `rows`, `marks` of claim, commit and abort, and `answer`) overlaps no other
-     argument, and no other thread reads or writes it before the call returns. Memory that is read is not changed before
-     the call returns.
+   - Memory that is written (`heads`, `rows`, `marks` of claim, commit and abort, what the two hb_dimacs functions
+     write, and `answer`) overlaps no other argument, and no other thread reads or writes it before the call returns.
+     Memory that is read is not changed before the call returns.
    - There is stack for the operation's work arrays (docs/LINKING.md says how much); there is no heap, and nothing is
      kept between calls, so that calls from several threads do not meet.
 
@@ -36,6 +36,11 @@
              are 1 to 32,766; 32,767 in a mark is the sign for "unknown". Any number is taken, and all but 0 count as
              marked. A marked branch weighs the lesser of 0 and its own weight; its length stays. Marks kept from a
              version before 1.5.0 are brought over once, by hb_convert
+   texts     two texts of the shortest-path format of the 9th DIMACS Implementation Challenge, one with lengths and one
+             with weights: lines, each ended by a line feed, whose fields are parted by one space. A line that begins
+             with c is a comment; one line `p sp NODES ARCS` stands before all lines `a FROM TO NUMBER`. Nodes count
+             from 1. Numbers have no leading zero, and a minus, in the weight text alone, only before a nonzero digit.
+             Each branch is two opposite arcs with equal number, in any order
 
    Refusal numbers, each given exactly when its condition holds and none before it in the operation's order does:
         1  under 12 bytes                         11  ring: the row whose ends earlier rows already join
@@ -52,7 +57,14 @@
                                                   22  unknown cell kind: 64 or more (version 2)
                                                   23  count above 20,000 (version 2)
                                                   24  an old mark from 32,767 to 65,534
-   Every function begins with 1 to 12; for rows of version 2, 22 and then 23 stand where 10 does. */
+       25  a text: any other or misplaced line, no p line, a last line without its line feed, a number too big for its
+           table field (node count 16 bits, length 32 bits, weight 32 bits signed), or a node outside 1 to the node
+           count
+       26  p line and arcs, or the two p lines, disagree
+       27  an arc given twice, from a node to itself or without its equal opposite
+       28  the two texts name different branches
+       29  no room for the output
+   Every function but hb_dimacs_read begins with 1 to 12; for rows of version 2, 22 and then 23 stand where 10 does. */
 #ifndef HOURBENCH_H
 #define HOURBENCH_H
 
@@ -60,9 +72,9 @@
 #include <stdint.h>
 
 /* The library's version; CHANGES.md says how it moves. */
-#define HB_VERSION "1.5.0"
+#define HB_VERSION "1.6.0"
 #define HB_VERSION_MAJOR 1
-#define HB_VERSION_MINOR 5
+#define HB_VERSION_MINOR 6
 #define HB_VERSION_PATCH 0
 
 /* Of a mark: HB_RUN, the run by which its branch is held or spent, 0 where free; HB_SPENT, whether it is spent. */
@@ -122,6 +134,20 @@ uint8_t hb_abort(const uint8_t *table, size_t table_len, uint16_t *marks, size_t
    32,767, "unknown". No fields. Then 13, 24, which names the first such row: let the version before commit or abort
    what its run holds, and call again. */
 uint8_t hb_convert(const uint8_t *table, size_t table_len, const uint16_t *marks, size_t marks_len, int64_t *answer);
+
+/* A table of version 1 with this wire bound, out of two texts: 12 bytes and 12 a branch, into `table`; the bytes beyond
+   stay unchanged. A row takes the order of its nodes and its place from its branch's first arc in `lengths`. Field: the
+   size. 25 to 29 in order, each over both texts before the next, and then 1 to 12 on the table made: 4 for a node count
+   0 or above 4,096, 6 where the branches are not n - 1. 25 to 29 name no row. */
+uint8_t hb_dimacs_read(const uint8_t *lengths, size_t lengths_len, const uint8_t *weights, size_t weights_len,
+                       uint32_t bound, uint8_t *table, size_t table_len, int64_t *answer);
+
+/* The two texts of a table of version 1: the p line, then each row's arc and its opposite. The bytes beyond a text stay
+   unchanged. Read back, the two texts, each in its size, give the same table. Fields: the size of the text with
+   lengths, that of the one with weights. In 1 to 12, 3 is any other version than 1; then 29, where there is no room for
+   one of the texts: then nothing is written for the other either. */
+uint8_t hb_dimacs_write(const uint8_t *table, size_t table_len, uint8_t *lengths, size_t lengths_len,
+                        uint8_t *weights, size_t weights_len, int64_t *answer);
 
 #ifdef __cplusplus
 }

@@ -1,15 +1,22 @@
 //! The second program: hand-worked and random cases, and their answers from the words of documents 01 and 02 alone.
 mod asks;
 mod cases;
+mod form;
+mod grids;
 mod make;
+mod make_roads;
 mod net;
 mod plain;
 mod random;
 mod reports;
+mod road_words;
+mod roads;
+mod trades;
 mod worked;
 
 use cases::Case;
 use std::io::{stdin, stdout, BufReader, BufWriter, Result, Write};
+use trades::Trade;
 
 const USAGE: &str = "\
 usage: oracle make SEED COUNT LIMIT [worked] > CASES     COUNT random cases of at most LIMIT nodes (1 to 4096);
@@ -17,7 +24,11 @@ usage: oracle make SEED COUNT LIMIT [worked] > CASES     COUNT random cases of a
        oracle answer [worked] < CASES                    a line for each ask; of the hand-worked ones the answer that
                                                          is written there
        oracle tables SEED COUNT LIMIT [first] > TABLES   COUNT random tables for the report; its own cases first
-       oracle report < TABLES                            the report of each table";
+       oracle report < TABLES                            the report of each table
+       oracle trades SEED COUNT LIMIT [worked] > TRADES  COUNT random trades with the road-graph tools, of nets of at
+                                                         most LIMIT nodes; those of oracle/roads.txt first
+       oracle traded [worked] < TRADES                   the lines of each; of the hand-worked ones the answer that is
+                                                         written there";
 
 fn usage() -> ! {
     eprintln!("{USAGE}");
@@ -47,11 +58,14 @@ fn is(args: &mut impl Iterator<Item = String>, word: &str) -> bool {
     }
 }
 
+/// What was read from a file of hand-worked cases.
+fn told<T>(read: std::result::Result<T, String>) -> T {
+    read.unwrap_or_else(|why| fail(&why))
+}
+
 /// The hand-worked cases with their lines.
 fn worked() -> Vec<(Case, Vec<String>)> {
-    let read = || worked::read()?.into_iter().map(|w| Ok((w.lines()?, w))).collect::<std::result::Result<Vec<_>, _>>();
-    let all: std::result::Result<_, String> = read();
-    all.unwrap_or_else(|why| fail(&why)).into_iter().map(|(lines, w)| (w.case, lines)).collect()
+    told(worked::read()).into_iter().map(|w| (told(w.lines()), w)).map(|(lines, w)| (w.case, lines)).collect()
 }
 
 fn make(seed: u64, count: usize, limit: usize, with_worked: bool) -> Vec<Case> {
@@ -83,6 +97,37 @@ fn answer(out: &mut impl Write, with_worked: bool) -> Result<()> {
     Ok(())
 }
 
+/// The hand-worked trades with their lines.
+fn worked_trades() -> Vec<(Trade, String)> {
+    told(road_words::read()).into_iter().map(|w| (told(w.lines()), w)).map(|(lines, w)| (w.trade, lines)).collect()
+}
+
+fn trades(seed: u64, count: usize, limit: usize, with_worked: bool) -> Vec<Trade> {
+    let mut random = make_roads::random_trades(seed, count, limit);
+    if !with_worked {
+        return random;
+    }
+    if let Some(first) = random.first_mut() {
+        first.text = "\nRandom trades.\n".to_string();
+    }
+    let mut all: Vec<Trade> = worked_trades().into_iter().map(|(trade, _)| trade).collect();
+    all.append(&mut random);
+    all
+}
+
+fn traded(out: &mut impl Write, with_worked: bool) -> Result<()> {
+    let trades = trades::read(&mut BufReader::new(stdin().lock()))?;
+    let known = if with_worked { worked_trades() } else { vec![] };
+    if known.len() > trades.len() || known.iter().zip(&trades).any(|((k, _), t)| k != t) {
+        fail("the trades do not begin with those of oracle/roads.txt as it stands");
+    }
+    for (i, t) in trades.iter().enumerate() {
+        let lines = if i < known.len() { known[i].1.clone() } else { t.lines() };
+        write!(out, "{}{lines}", t.text)?;
+    }
+    Ok(())
+}
+
 fn main() -> Result<()> {
     let mut args = std::env::args().skip(1);
     let mut out = BufWriter::new(stdout().lock());
@@ -103,6 +148,11 @@ fn main() -> Result<()> {
                 reports::report(&mut out, &table)?;
             }
         }
+        Some("trades") => {
+            let (seed, count, limit, with_worked) = asked(&mut args, "worked");
+            trades::write(&mut out, &trades(seed, count, limit, with_worked))?;
+        }
+        Some("traded") => traded(&mut out, is(&mut args, "worked"))?,
         _ => usage(),
     }
     out.flush()

@@ -90,7 +90,7 @@ fn carried(r: &mut Random, n: usize, version: u8) -> Vec<Carried> {
 }
 
 /// Rows in any order, ends either way round, nodes by any name.
-fn branches(r: &mut Random, n: usize, version: u8) -> Vec<Branch> {
+pub fn branches(r: &mut Random, n: usize, version: u8) -> Vec<Branch> {
     let (up, long, heavy) = (shape(r, n), lengths(r, n), carried(r, n, version));
     let mut name: Vec<u16> = (0..n as u16).collect();
     if !r.one_in(4) {

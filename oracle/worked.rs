@@ -19,9 +19,12 @@ pub struct Worked {
     answers: Vec<Option<(usize, Said)>>,
 }
 
-type Read<T> = Result<T, String>;
+pub type Read<T> = Result<T, String>;
 
-fn number<T: FromStr>(word: &str) -> Read<T> {
+/// A net's rows by its name.
+pub type Nets = HashMap<String, Vec<Branch>>;
+
+pub fn number<T: FromStr>(word: &str) -> Read<T> {
     word.parse().map_err(|_| format!("'{word}' is no number that fits here"))
 }
 
@@ -35,7 +38,7 @@ fn ends(word: &str) -> Read<(u16, u16)> {
     Ok((number(a)?, number(b)?))
 }
 
-fn words(text: &str) -> Vec<&str> {
+pub fn words(text: &str) -> Vec<&str> {
     text.split_whitespace().collect()
 }
 
@@ -43,7 +46,7 @@ fn parts(text: &str) -> Vec<Vec<&str>> {
     text.split(',').map(words).collect()
 }
 
-fn strange<T>(what: &str, words: &[&str]) -> Read<T> {
+pub fn strange<T>(what: &str, words: &[&str]) -> Read<T> {
     Err(format!("{what} cannot be '{}'", words.join(" ")))
 }
 
@@ -68,7 +71,7 @@ fn row(words: &[&str]) -> Read<Branch> {
 }
 
 /// A net's rows: one, or many of one shape.
-fn rows(line: &str) -> Read<Vec<Branch>> {
+pub fn rows(line: &str) -> Read<Vec<Branch>> {
     Ok(match words(line)[..] {
         ["chain", "of", n, "nodes", "length", l, ref rest @ ..] => {
             (1..number(n)?).map(|x| Ok((x - 1, x, number(l)?, carried(rest, x - 1)?))).collect::<Read<_>>()?
@@ -82,7 +85,7 @@ fn rows(line: &str) -> Read<Vec<Branch>> {
 }
 
 /// All rows of a net carry the same: weights, or kinds and counts.
-fn alike(net: &[Branch]) -> Read<()> {
+pub fn alike(net: &[Branch]) -> Read<()> {
     if net.iter().any(|row| version(&[*row]) != version(net)) {
         return Err("rows with a weight and rows with kind and count make no table".to_string());
     }
@@ -90,7 +93,7 @@ fn alike(net: &[Branch]) -> Read<()> {
 }
 
 /// A table's bytes, and how many rows its net has: the net, then what is said of it and what of the bytes.
-fn table_of(line: &str, nets: &HashMap<String, Vec<Branch>>) -> Read<(Vec<u8>, usize)> {
+pub fn table_of(line: &str, nets: &Nets) -> Read<(Vec<u8>, usize)> {
     let all = parts(line);
     let mut net: Vec<Branch> = match all[0][..] {
         [name] => nets.get(name).ok_or(format!("no net is called {name}"))?.clone(),
@@ -216,6 +219,16 @@ fn wide(bytes: Vec<u8>) -> Option<Vec<u16>> {
     Some(bytes.into_iter().map(u16::from).collect())
 }
 
+/// A refusal as it is written: number, row, ring.
+pub fn refusal(words: &[&str]) -> Read<Option<[u64; 3]>> {
+    Ok(match words {
+        ["refused", n] => Some([number(n)?, 0, 0]),
+        ["refused", n, "row", r] => Some([number(n)?, number(r)?, 0]),
+        ["refused", n, "row", r, "ring", g] => Some([number(n)?, number(r)?, number(g)?]),
+        _ => None,
+    })
+}
+
 /// The answer as it is written. A refusal leaves the lent memory and the marks as they were.
 fn said(ask: &Ask, text: &str, before: &[u16]) -> Read<Said> {
     let all = parts(text);
@@ -224,13 +237,7 @@ fn said(ask: &Ask, text: &str, before: &[u16]) -> Read<Said> {
         Op::Claim | Op::Commit | Op::Abort => Some(before.to_vec()),
         _ => None,
     };
-    let refusal = match all[0][..] {
-        ["refused", n] => Some([number(n)?, 0, 0]),
-        ["refused", n, "row", r] => Some([number(n)?, number(r)?, 0]),
-        ["refused", n, "row", r, "ring", g] => Some([number(n)?, number(r)?, number(g)?]),
-        _ => None,
-    };
-    if let Some(refusal) = refusal {
+    if let Some(refusal) = refusal(&all[0])? {
         return Ok(Said { refusal, fields: vec![0; ask.many()], memory: lent() });
     }
     let fine = |fields: Read<Vec<i128>>, memory| Ok(Said { refusal: [0; 3], fields: fields?, memory });
@@ -304,7 +311,7 @@ impl Worked {
         self.case.asks.iter().zip(&self.answers).rev().find_map(changed).unwrap_or(self.case.marks.clone())
     }
 
-    fn take(&mut self, at: usize, line: &str, nets: &HashMap<String, Vec<Branch>>) -> Read<()> {
+    fn take(&mut self, at: usize, line: &str, nets: &Nets) -> Read<()> {
         if let Some(rest) = line.strip_prefix("table ") {
             let (table, free) = table_of(rest, nets)?;
             (self.case.table, self.case.marks) = (table, vec![0; free]);
@@ -340,21 +347,33 @@ impl Worked {
     }
 }
 
-/// All of them, in order. A line that ends with a comma goes on in the next.
-pub fn read() -> Read<Vec<Worked>> {
-    let mut nets: HashMap<String, Vec<Branch>> = HashMap::new();
-    let mut all: Vec<Worked> = Vec::new();
-    let (mut net, mut begun) = (None, String::new());
-    for (i, line) in WORDS.lines().enumerate() {
-        if line.trim().is_empty() || line.trim().starts_with('#') {
+/// The lines of a file of hand-worked cases, with their numbers: no comments; one that ends with a comma goes on in the
+/// next, and one that begins with '=' goes on from the one before.
+pub fn lines(text: &str) -> Vec<(usize, String)> {
+    let mut all: Vec<(usize, String)> = vec![];
+    for (i, line) in text.lines().map(str::trim).enumerate() {
+        if line.is_empty() || line.starts_with('#') {
             continue;
         }
-        let (line, at) = (format!("{begun}{}", line.trim()), i + 1);
+        match all.last_mut() {
+            Some((at, begun)) if begun.ends_with(',') || line.starts_with('=') => {
+                *at = i + 1;
+                *begun += &format!(" {line}");
+            }
+            _ => all.push((i + 1, line.to_string())),
+        }
+    }
+    all
+}
+
+/// All of them, in order.
+pub fn read() -> Read<Vec<Worked>> {
+    let mut nets = Nets::new();
+    let mut all: Vec<Worked> = Vec::new();
+    let mut net = None;
+    for (at, line) in lines(WORDS) {
         let told = |why: String| format!("oracle/worked.txt:{at}: {why}");
-        begun = if line.ends_with(',') { format!("{line} ") } else { String::new() };
-        if !begun.is_empty() {
-            continue;
-        } else if let Some(name) = line.strip_prefix("net ") {
+        if let Some(name) = line.strip_prefix("net ") {
             net = Some(name.to_string());
             nets.insert(name.to_string(), vec![]);
         } else if let Some(text) = line.strip_prefix("case ") {

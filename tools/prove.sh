@@ -99,12 +99,12 @@ prove_here() { # NAME
 }
 
 # The same in a clone that cannot be written: rt reads copies of its stamps in a folder of ours and finds nothing to
-# prove, or the clone is not built.
+# prove, or the clone is not built. $name is the script's.
 prove_aside() { # NAME ROOM
     mkdir -p "$2/target/stamp" && ln -s "$root/crates" "$root/crates.txt" "$2/" &&
         cp "$root"/target/stamp/* "$2/target/stamp/" 2>/dev/null &&
         (cd "$2" && timeout 60 rt check "$1") </dev/null >"$2/log" 2>&1 && [ -r "$root/target/bin/$1" ] && return
-    echo "$me: $root is not built as it stands, and you cannot write there: let its owner run ./report" >&2
+    echo "$me: $root is not built as it stands, and you cannot write there: let its owner run ./$name" >&2
     return 1
 }
 

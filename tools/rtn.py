@@ -1,4 +1,5 @@
 """Branch tables as numbers, with nothing tested but what reading them needs. For tools/table and tools/draw."""
+import os
 import struct
 import sys
 
@@ -9,24 +10,15 @@ ROWS = {1: struct.Struct("<HHIi"), 2: struct.Struct("<HHIHH")}
 # What each kind scores: from 24 on filler, from 32 on blocked ground.
 SCORES = [1, 2, 2, 3, 3, 4, 4, 5, 6, 6, 8, 8, 10, 10, 12, 12, 14, 14, 16, 16, 18, 20, 22, 24] + 8 * [0] + 32 * [-50]
 
-# The refusals that a table itself can get, in README.md's words.
-REFUSALS = {
-    1: "under 12 bytes",
-    2: "mark not RTN",
-    3: "version neither 1 nor 2",
-    4: "n is 0 or above 4,096",
-    5: "reserved byte not 0",
-    6: "size not 12 × n",
-    7: "row names a node not below n",
-    8: "row joins a node to itself",
-    9: "length out of range",
-    10: "weight out of range",
-    11: "ring: row whose ends earlier rows already join",
-    12: "no ring, yet some node isn't joined to node 0",
-    16: "no pair within the bound",
-    22: "unknown kind",
-    23: "count above 20,000",
-}
+
+def refusals():
+    """Each refusal's words, by its number."""
+    with open(os.path.join(os.path.dirname(os.path.realpath(__file__)), "refusals"), encoding="utf-8") as lines:
+        pairs = (line.rstrip("\n").split(" ", 1) for line in lines if not line.startswith("#"))
+        return {int(number): words for number, words in pairs}
+
+
+REFUSALS = refusals()
 
 
 class Bad(Exception):

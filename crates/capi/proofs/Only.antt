@@ -11,8 +11,18 @@ use Rattle.convert.proofs.Only.{convert-only}
 use Rattle.pair.proofs.Only.{pair-only}
 use Rattle.heaviest.proofs.Only.{heaviest-only, heaviest-exact-only}
 use Rattle.listing.proofs.Only.{listing-only, listing-exact-only}
-use Rattle.eight.specs.Call.{Call}
-use Rattle.eight.specs.Shown.{acceptanceInC, pairInC, heaviestInC, headsInC, listingInC, changeInC, conversionInC}
+use Rattle.dimacs.proofs.Only.{read-only, write-only}
+use Rattle.eight.specs.Shown.{
+  acceptanceInC,
+  pairInC,
+  heaviestInC,
+  headsInC,
+  listingInC,
+  changeInC,
+  conversionInC,
+  readInC,
+  writeInC,
+}
 use Rattle.capi.specs.Promises.{
   ShowsInC,
   AcceptCall,
@@ -26,9 +36,11 @@ use Rattle.capi.specs.Promises.{
   CommitCall,
   AbortCall,
   ConvertCall,
+  ReadCall,
+  WriteCall,
 }
 
-shows-only : {O : Type 0} {Promise : O → Type 0} (inC : O → Call) → Only Promise → Only (ShowsInC Promise inC)
+shows-only : {O C : Type 0} {Promise : O → Type 0} (inC : O → C) → Only Promise → Only (ShowsInC Promise inC)
 shows-only inC o x y p q = p .shown ∙ ap inC (o (p .outcome) (q .outcome) (p .promise) (q .promise)) ∙ sym (q .shown)
 
 pub hb-accept-only : (s : List ℕ) → Only (AcceptCall s)
@@ -65,3 +77,10 @@ hb-abort-only s before run = shows-only changeInC (abort-only s before run)
 
 pub hb-convert-only : (s marks : List ℕ) → Only (ConvertCall s marks)
 hb-convert-only s marks = shows-only conversionInC (convert-only s marks)
+
+pub hb-dimacs-read-only : (lengths weights : List ℕ) (bound : ℕ) (old : List ℕ)
+    → Only (ReadCall lengths weights bound old)
+hb-dimacs-read-only lengths weights bound old = shows-only readInC (read-only lengths weights bound old)
+
+pub hb-dimacs-write-only : (s lengths weights : List ℕ) → Only (WriteCall s lengths weights)
+hb-dimacs-write-only s lengths weights = shows-only writeInC (write-only s lengths weights)

@@ -1,10 +1,11 @@
 -- The row that a refusal names is below 4,096 and its ring has no more rows than that, so that both fit a signed
 -- number: a refusal of 1 to 12 names a row of the table, or 0, and a ring has rows up to the row named alone; of an
 -- operation's own refusals, from 13 on, 24 alone names one, which has a mark.
-use Prim.Native.Nat.{ℕ, _≤_}
+use Prim.Native.Nat.{ℕ, _≤_, _<_}
 use mathlib.Core.List.{List}
 use native.Mathlib.Omega.{arith}
 use lib.IntN.{ℤ}
+use lib.ListN.{length}
 use Rattle.table.specs.Header.{nodesOf}
 use Rattle.table.specs.Refuse.{Unless}
 use Rattle.tree.specs.Accept.{Accepts, acceptanceRefusal}
@@ -31,6 +32,10 @@ use Rattle.listing.specs.Listing.{GivesPage, ListingWithin, listingRefusal}
 use Rattle.listing.specs.declared.Listed.{Listed}
 use Rattle.listing.specs.declared.Listed.the-variants as listing
 use Rattle.listing.proofs.Few.{listing-few}
+use Rattle.dimacs.specs.Read.{ReadOf}
+use Rattle.dimacs.specs.declared.ReadAnswer.{ReadAnswer}
+use Rattle.dimacs.specs.Write.{Wrote, WriteOf}
+use Rattle.dimacs.proofs.Cases.{by-reading, by-writing}
 use Rattle.eight.specs.work.Room.{
   Room,
   AcceptanceRoom,
@@ -40,6 +45,8 @@ use Rattle.eight.specs.work.Room.{
   PageRoom,
   ChangeRoom,
   ConversionRoom,
+  ReadRoom,
+  WriteRoom,
 }
 
 nowhere : Room 0 0
@@ -137,3 +144,15 @@ convert-low s marks x p =
     after few x =
         by-unless ConversionRoom nowhere
         (λ e y. by-rows ConversionRoom (λ k r l _. record { low = omega (arith, few, e, l); few = omega arith }) given)
+
+-- the sizes of a table made and of texts written are those of a part of what was lent
+pub read-low : (lengths weights : List ℕ) (bound : ℕ) (old : List ℕ) (x : ReadAnswer × List ℕ)
+    → length old < 9223372036854775808 → ReadOf lengths weights bound old x → ReadRoom (x .0)
+read-low lengths weights bound old x h p =
+    by-reading (λ o. ReadRoom (o .0)) old told (λ t room. omega (arith, room, h)) p
+
+pub write-low : (s lengths weights : List ℕ) (x : Wrote) → length lengths < 9223372036854775808
+    → length weights < 9223372036854775808 → WriteOf s lengths weights x → WriteRoom (x .0)
+write-low s lengths weights x h g p =
+    by-writing (λ o. WriteRoom (o .0)) lengths weights told
+    (λ l w long heavy. (omega (arith, long, h), omega (arith, heavy, g))) p

@@ -13,7 +13,7 @@ use Rattle.eight.specs.Call.{Call}
 use Rattle.eight.specs.Shown.{listingInC}
 use Rattle.capi.specs.Promises.{ShowsInC}
 
-pub shows : {O : Type 0} {Promise : O → Type 0} {inC : O → Call} {c : Call} (o : O) → Promise o → c ≡ inC o
+pub shows : {O C : Type 0} {Promise : O → Type 0} {inC : O → C} {c : C} (o : O) → Promise o → c ≡ inC o
     → ShowsInC Promise inC c
 shows o p e = record { outcome = o; promise = p; shown = e }
 

@@ -11,11 +11,24 @@ use Rattle.convert.specs.Convert.{Converts}
 use Rattle.pair.specs.Pair.{PairOf}
 use Rattle.heaviest.specs.Heaviest.{HeaviestOf, HeaviestExactOf}
 use Rattle.listing.specs.Listing.{ListingOf, ListingExactOf}
+use Rattle.dimacs.specs.Read.{ReadOf}
+use Rattle.dimacs.specs.Write.{WriteOf}
 use Rattle.eight.specs.Call.{Call}
-use Rattle.eight.specs.Shown.{acceptanceInC, pairInC, heaviestInC, headsInC, listingInC, changeInC, conversionInC}
+use Rattle.eight.specs.Shown.{
+  acceptanceInC,
+  pairInC,
+  heaviestInC,
+  headsInC,
+  listingInC,
+  changeInC,
+  conversionInC,
+  readInC,
+  writeInC,
+}
 
--- a call leaves what an outcome that the operation's own promise allows is in C
-pub record ShowsInC {O : Type 0} (Promise : O → Type 0) (inC : O → Call) (c : Call) : Type 0 where
+-- a call leaves what an outcome that the operation's own promise allows is in C: a `Call`, and where two memories are
+-- lent to be written the second of them beside it
+pub record ShowsInC {O C : Type 0} (Promise : O → Type 0) (inC : O → C) (c : C) : Type 0 where
   pub outcome : O
   pub promise : Promise outcome
   pub shown : c ≡ inC outcome
@@ -52,3 +65,9 @@ AbortCall s before run = ShowsInC (Aborts s before run) changeInC
 
 abbrev pub ConvertCall : List ℕ → List ℕ → Call → Type 0
 ConvertCall s marks = ShowsInC (Converts s marks) conversionInC
+
+abbrev pub ReadCall : List ℕ → List ℕ → ℕ → List ℕ → Call → Type 0
+ReadCall lengths weights bound old = ShowsInC (ReadOf lengths weights bound old) readInC
+
+abbrev pub WriteCall : List ℕ → List ℕ → List ℕ → Call × List ℕ → Type 0
+WriteCall s lengths weights = ShowsInC (WriteOf s lengths weights) writeInC

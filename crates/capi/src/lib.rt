@@ -15,6 +15,8 @@ ghost use Rattle.capi.specs.Promises.{
   CommitCall,
   AbortCall,
   ConvertCall,
+  ReadCall,
+  WriteCall,
 };
 use eight::show_acceptance;
 use eight::show_change;
@@ -23,6 +25,8 @@ use eight::show_heads;
 use eight::show_heaviest;
 use eight::show_page;
 use eight::show_pair;
+use eight::show_read;
+use eight::show_write;
 
 // Fields: nodes, bound.
 #[no_mangle]
@@ -150,4 +154,35 @@ pub extern "C" fn hb_convert(s: &[u8], marks: &[u16], answer: &mut [i64; 8]) -> 
 {
     let o = convert::convert(s, marks);
     show_conversion(o, answer)
+}
+
+// Fields: size; the table of two texts into `table`.
+#[no_mangle]
+pub extern "C" fn hb_dimacs_read(
+    lengths: &[u8],
+    weights: &[u8],
+    bound: u32,
+    table: &mut [u8],
+    answer: &mut [i64; 8],
+) -> u8
+    ensures { λ r. ⌜ ReadCall (now (lengths .entry)) (now (weights .entry)) bound (now (table .entry))
+        (call r (now (answer .exit)) (now (table .exit))) ⌝ }
+{
+    let o = dimacs::read(lengths, weights, bound, table);
+    show_read(o, answer)
+}
+
+// Fields: the two sizes; the texts into `lengths` and `weights`.
+#[no_mangle]
+pub extern "C" fn hb_dimacs_write(
+    s: &[u8],
+    lengths: &mut [u8],
+    weights: &mut [u8],
+    answer: &mut [i64; 8],
+) -> u8
+    ensures { λ r. ⌜ WriteCall (now (s .entry)) (now (lengths .entry)) (now (weights .entry))
+        (call r (now (answer .exit)) (now (lengths .exit)), now (weights .exit)) ⌝ }
+{
+    let o = dimacs::write(s, lengths, weights);
+    show_write(o, answer)
 }

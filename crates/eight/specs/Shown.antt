@@ -17,6 +17,10 @@ use Rattle.heaviest.specs.declared.HeaviestAnswer.{HeaviestAnswer}
 use Rattle.heaviest.specs.declared.HeaviestAnswer.the-variants as heaviest
 use Rattle.listing.specs.declared.Listed.{Listed}
 use Rattle.listing.specs.declared.Listed.the-variants as listing
+use Rattle.dimacs.specs.Write.{Wrote}
+use Rattle.dimacs.specs.declared.ReadAnswer.{ReadAnswer}
+use Rattle.dimacs.specs.declared.ReadAnswer.the-variants as read
+use Rattle.dimacs.specs.declared.WriteAnswer.the-variants as write
 use Rattle.eight.specs.Call.{Call, inC}
 
 -- a refusal: its number, row and ring, zeros elsewhere
@@ -57,3 +61,13 @@ changeInC (change.Refused why, marks) = refusalInC why marks
 abbrev pub conversionInC : Conversion → Call
 conversionInC conversion.Converted = inC 0 0 0 (pos 0) (pos 0) (pos 0) (pos 0) []
 conversionInC (conversion.Refused why) = refusalInC why []
+
+-- size; the table
+abbrev pub readInC : ReadAnswer × List ℕ → Call
+readInC (read.Table size, table) = inC 0 0 0 (pos size) (pos 0) (pos 0) (pos 0) table
+readInC (read.Refused why, table) = refusalInC why table
+
+-- the two sizes; the text with lengths and, beside it, the one with weights
+abbrev pub writeInC : Wrote → Call × List ℕ
+writeInC (write.Texts a b, lengths, weights) = (inC 0 0 0 (pos a) (pos b) (pos 0) (pos 0) lengths, weights)
+writeInC (write.Refused why, lengths, weights) = (refusalInC why lengths, weights)

@@ -14,6 +14,8 @@ ghost use Rattle.eight.specs.Shown.{
   listingInC,
   changeInC,
   conversionInC,
+  readInC,
+  writeInC,
 };
 ghost use Rattle.eight.specs.work.Room.{
   AcceptanceRoom,
@@ -23,11 +25,15 @@ ghost use Rattle.eight.specs.work.Room.{
   PageRoom,
   ChangeRoom,
   ConversionRoom,
+  ReadRoom,
+  WriteRoom,
 };
 use crate::answer::fill;
 use crate::answer::refuse;
 use changes::Change;
 use convert::Conversion;
+use dimacs::ReadAnswer;
+use dimacs::WriteAnswer;
 use heaviest::HeaviestAnswer;
 use listing::Listed;
 use pair::PairAnswer;
@@ -132,5 +138,30 @@ pub fn show_conversion(o: Conversion, answer: &mut [i64; 8]) -> u8
     match o {
         Conversion::Refused(why) => refuse(why, answer),
         Conversion::Converted => fill(answer, 0, 0, 0, 0, 0, 0, 0),
+    }
+}
+
+// What reading two texts gave: the refusal, or the table's size.
+pub fn show_read(o: ReadAnswer, answer: &mut [i64; 8]) -> u8
+    requires { ⌜ ReadRoom o ⌝ }
+    ensures { λ r. ⌜ ((table : List ℕ) → call r (now (answer .exit)) table ≡ readInC (o, table)) ⌝ }
+{
+    match o {
+        ReadAnswer::Refused(why) => refuse(why, answer),
+        ReadAnswer::Table { size } => { fill(answer, 0, 0, 0, size as i64, 0, 0, 0) }
+    }
+}
+
+// What writing two texts gave: the refusal, or their sizes.
+pub fn show_write(o: WriteAnswer, answer: &mut [i64; 8]) -> u8
+    requires { ⌜ WriteRoom o ⌝ }
+    ensures { λ r. ⌜ ((lengths weights : List ℕ)
+        → (call r (now (answer .exit)) lengths, weights) ≡ writeInC (o, lengths, weights)) ⌝ }
+{
+    match o {
+        WriteAnswer::Refused(why) => refuse(why, answer),
+        WriteAnswer::Texts { lengths, weights } => {
+            fill(answer, 0, 0, 0, lengths as i64, weights as i64, 0, 0)
+        }
     }
 }

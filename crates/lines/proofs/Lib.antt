@@ -1,5 +1,4 @@
 -- Laws of the report's lines, by topic.
-pub mod Reading
 pub mod Told
 pub mod Lining
 pub mod Lengths

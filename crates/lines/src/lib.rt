@@ -1,7 +1,6 @@
 // The report's lines, put into lent bytes: each function promises the text, byte for byte, and that nothing else
 // changes.
 mod fields;
-pub mod numbers;
 
 ghost use Prim.Native.Nat.{_+_, _*_, _-_, _≤_};
 ghost use mathlib.Core.List.{_++_};

@@ -12,7 +12,8 @@ use mir.ValLaws.{toZ-ofZ, ofZ-fits}
 use Rattle.table.specs.Bytes.{u16At, u32At}
 use Rattle.arrays.specs.Members.{In, at, past}
 use Rattle.pages.specs.Listing.{Entry}
-use Rattle.pages.specs.Bytes.{bytes, row, rows, u64At, entryAt, entries}
+use Rattle.numbers.specs.Bytes.{bytes, u64At}
+use Rattle.pages.specs.Bytes.{row, rows, entryAt, entries}
 use Rattle.pages.specs.work.RowFits.{RowFits}
 use Rattle.pages.proofs.Rows.{row-length}
 

@@ -1,21 +1,17 @@
 -- Rows as bytes: how long they are, and how one more is stored.
-use Prim.Native.Nat.{ℕ, zero, suc, _+_, _-_, _*_, _/_, _%_, _≤_, _<_}
-use mathlib.Core.Path.{_≡_, refl, sym, ap, _∙_}
+use Prim.Native.Nat.{ℕ, _+_, _-_, _*_, _≤_}
+use mathlib.Core.Path.{_≡_, refl, sym, _∙_}
 use mathlib.Core.List.{List, [], _∷_, _++_, append-assoc, append-nil}
 use native.Mathlib.Omega.{arith}
-use native.Mathlib.Numerals.{add-one}
-use lib.ListN.{length, drop, set, length-append}
+use lib.ListN.{length, drop, length-append}
 use lib.Seq.{sets, sets-eq, take-append-seam, drop-append-add}
 use mir.Syntax.{w64}
 use mir.Val.{ofZ}
 use Rattle.arrays.proofs.Stores.{sets-append}
 use Rattle.pages.specs.Listing.{Entry}
-use Rattle.pages.specs.Bytes.{bytes, row, rows}
-
-bytes-length : (k x : ℕ) → length (bytes k x) ≡ k
-unfolding bytes
-bytes-length zero x = refl
-bytes-length (suc k) x = ap suc (bytes-length k (x / 256))
+use Rattle.numbers.specs.Bytes.{bytes}
+use Rattle.numbers.proofs.Stored.{bytes-length}
+use Rattle.pages.specs.Bytes.{row, rows}
 
 pub row-length : (e : Entry) → length (row e) ≡ 16
 unfolding row
@@ -34,18 +30,6 @@ rows-append (x ∷ l) m = rw (rows-append l m) (sym (append-assoc (row x) (rows 
 pub rows-end : (l : List Entry) (e : Entry) → rows (l ++ e ∷ []) ≡ rows l ++ row e
 unfolding rows
 rows-end l e = rw (rows-append l (e ∷ []), append-nil (row e)) refl
-
--- a turn of the loop that stores bytes: what is left to do makes the same as before
-pub bytes-step : (out : List ℕ) (p j y : ℕ) → 0 < j
-    → sets (set out p (y % 256)) (p + 1) (bytes (j - 1) (y / 256)) ≡ sets out p (bytes j y)
-unfolding bytes
-bytes-step out p zero y h = absurd (omega arith)
-bytes-step out p (suc j) y h = let e : suc j - 1 ≡ j = omega arith in rw (e, add-one p)
-
-pub bytes-none : (out : List ℕ) (p j y : ℕ) → j ≤ 0 → sets out p (bytes j y) ≡ out
-unfolding bytes
-bytes-none out p zero y h = refl
-bytes-none out p (suc j) y h = absurd (omega arith)
 
 pub row-sets : (l : List ℕ) (i : ℕ) (e : Entry)
     → sets (sets (sets (sets l i (bytes 2 (e .low))) (i + 2) (bytes 2 (e .high))) (i + 4) (bytes 4 (e .length))) (i + 8)

@@ -1,15 +1,11 @@
 -- A row of a page as bytes, and what bytes say as rows.
-use Prim.Native.Nat.{ℕ, zero, suc, _+_, _*_, _/_, _%_}
+use Prim.Native.Nat.{ℕ, zero, suc, _+_, _*_}
 use mathlib.Core.List.{List, [], _∷_, _++_}
 use mir.Syntax.{w64}
 use mir.Val.{ofZ, toZ}
 use Rattle.table.specs.Bytes.{u16At, u32At}
+use Rattle.numbers.specs.Bytes.{bytes, u64At}
 use Rattle.pages.specs.Listing.{Entry, entry}
-
--- the k lowest bytes of x, lowest first
-unfoldable pub bytes : ℕ → ℕ → List ℕ
-bytes zero x = []
-bytes (suc k) x = x % 256 ∷ bytes k (x / 256)
 
 -- node, node (16 bits each), length (32 bits), weight (64 bits signed): 16 bytes
 unfoldable pub row : Entry → List ℕ
@@ -20,9 +16,6 @@ rows [] = []
 rows (e ∷ l) = row e ++ rows l
 
 -- the same read: what the 16 bytes from place i on say, and what k rows say, from row i on
-abbrev pub u64At : List ℕ → ℕ → ℕ
-u64At s i = u32At s i + 4294967296 * u32At s (i + 4)
-
 abbrev pub entryAt : List ℕ → ℕ → Entry
 entryAt s i = entry (u16At s i) (u16At s (i + 2)) (u32At s (i + 4)) (toZ w64 (u64At s (i + 8)))
 

@@ -8,11 +8,12 @@ ghost use mir.Syntax.{w64};
 ghost use mir.Val.{ofZ};
 ghost use Rattle.limits.specs.work.Fits.{Fits, Decides};
 ghost use Rattle.pages.specs.Listing.{entry};
-ghost use Rattle.pages.specs.Bytes.{bytes, row};
+ghost use Rattle.pages.specs.Bytes.{row};
 ghost use Rattle.pages.specs.work.Lowered.{lower, Raised};
 ghost use Rattle.pages.specs.work.Filling.{Starts, Added, SecondsReady, Seconds};
 use limits::Limit;
 use limits::fits;
+use numbers::put_bytes;
 use table::SUM_LIFT;
 
 // The lift of a sum as a signed number, and the least sum that is lifted.
@@ -24,22 +25,6 @@ const LEAST: i64 = -SIGNED_LIFT;
 pub struct Count {
     pub given: usize,
     pub left: usize,
-}
-
-// The k lowest bytes of x, lowest first.
-fn put(out: &mut [u8], at: usize, x: u64, k: usize)
-    requires { ⌜ at + k ≤ length (now out) ⌝ }
-    ensures { λ _. ⌜ now (out .exit) ≡ sets (now (out .entry)) at (bytes k x) ⌝ }
-{
-    let mut p = at;
-    let mut y = x;
-    let mut j = k;
-    while 0 < j {
-        out[p] = (y % 256) as u8;
-        p += 1;
-        y = y / 256;
-        j -= 1;
-    }
 }
 
 // The 64 bits of the signed number that x stands for.
@@ -59,11 +44,11 @@ fn put_row(out: &mut [u8], at: usize, a: usize, b: usize, l: u64, x: u64)
     requires { ⌜ (at + 16 ≤ length (now out)) × (x < 17179869184) ⌝ }
     ensures { λ _. ⌜ now (out .exit) ≡ sets (now (out .entry)) at (row (entry a b l (lower x))) ⌝ }
 {
-    put(out, at, a as u64, 2);
-    put(out, at + 2, b as u64, 2);
-    put(out, at + 4, l, 4);
+    put_bytes(out, at, a as u64, 2);
+    put_bytes(out, at + 2, b as u64, 2);
+    put_bytes(out, at + 4, l, 4);
     let w = bits(x);
-    put(out, at + 8, w, 8);
+    put_bytes(out, at + 8, w, 8);
 }
 
 // A row more where there is room for it, one more left over where there is none.

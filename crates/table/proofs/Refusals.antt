@@ -8,11 +8,15 @@ use native.Mathlib.Omega.{arith}
 use Rattle.table.specs.Refuse.{Unless, refused, passed, FirstBad, bad, fine, Only}
 
 module _ {A : Type 0} {no : A} {Ok : Type 0} {rest : A → Type 0} where
+  -- one outcome, where what follows the good condition allows one
+  pub unless-good-only : (Ok → Only rest) → Only (Unless A no Ok rest)
+  unless-good-only o x y (refused c) (refused d) = refl
+  unless-good-only o x y (refused c) (passed n q) = absurd (c n)
+  unless-good-only o x y (passed n p) (refused c) = absurd (c n)
+  unless-good-only o x y (passed n p) (passed m q) = o n x y p q
+
   pub unless-only : Only rest → Only (Unless A no Ok rest)
-  unless-only o x y (refused c) (refused d) = refl
-  unless-only o x y (refused c) (passed n q) = absurd (c n)
-  unless-only o x y (passed n p) (refused c) = absurd (c n)
-  unless-only o x y (passed n p) (passed m q) = o x y p q
+  unless-only o = unless-good-only (λ _. o)
 
   -- an outcome that differs from the refusal has passed
   pub past : {x : A} → (no ≡ x → ⊥) → Unless A no Ok rest x → Ok × rest x

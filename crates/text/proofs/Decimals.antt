@@ -1,5 +1,5 @@
--- Decimal digits: each number has one text, a text is of one number, and how long it is. By the number of digits, which
--- falls with each division by 10.
+-- Decimal digits: each number has one text, a text is of one number and begins with 0 only where that is 0, and how
+-- long it is. By the number of digits, which falls with each division by 10.
 use mathlib.Core.Path.{_≡_, refl, sym, ap, _∙_}
 use mathlib.Core.List.{List, [], _∷_, _++_}
 use Prim.Native.Nat.{ℕ, zero, suc, _+_, _-_, _*_, _/_, _%_, _^_, _≤_, _<_}
@@ -82,6 +82,10 @@ unfolding value
 decimal-value (digit {d} h) = omega arith
 decimal-value (more {x} {d} {t} p o h) = omega (arith, value-snoc 0 (48 + d) t, decimal-value p)
 
+-- a text is of one number
+pub number-one : {x y : ℕ} {t : List ℕ} → Decimal x t → Decimal y t → x ≡ y
+number-one p q = sym (decimal-value p) ∙ decimal-value q
+
 -- two numbers have two texts
 pub decimal-apart : (x y : ℕ) → decimal x ≡ decimal y → x ≡ y
 decimal-apart x y e = sym (decimal-value (decimal-is x)) ∙ ap (value 0) e ∙ decimal-value (decimal-is y)
@@ -92,6 +96,31 @@ decimal-some x = pick (length-size x)
     pick : {k : ℕ} → Size x k → 1 ≤ k
     pick (one h) = omega arith
     pick (longer h s) = omega arith
+
+pub text-some : {x : ℕ} {t : List ℕ} → Decimal x t → 1 ≤ length t
+text-some {x} p = rw (decimal-one p (decimal-is x)) (decimal-some x)
+
+-- digits alone
+pub data AllDigits : List ℕ → Type 0 where
+  none : AllDigits []
+  next : {b : ℕ} {t : List ℕ} → 48 ≤ b → b ≤ 57 → AllDigits t → AllDigits (b ∷ t)
+
+all-snoc : {t : List ℕ} {b : ℕ} → AllDigits t → 48 ≤ b → b ≤ 57 → AllDigits (t ++ b ∷ [])
+all-snoc none lo hi = next lo hi none
+all-snoc (next l h d) lo hi = next l h (all-snoc d lo hi)
+
+pub text-digits : {x : ℕ} {t : List ℕ} → Decimal x t → AllDigits t
+text-digits (digit {d} h) = next {b = 48 + d} (omega arith) (omega arith) none
+text-digits (more {d} p o h) = all-snoc {b = 48 + d} (text-digits p) (omega arith) (omega arith)
+
+-- a text that begins with 0 is that of 0
+pub leading-zero : {x : ℕ} {t : List ℕ} → Decimal x t → (u : List ℕ) → t ≡ 48 ∷ u → x ≡ 0
+leading-zero (digit {d} h) u e = let z : 48 + d ≡ 48 = cc in omega arith
+leading-zero (more {x} {d} {t} p o h) u e = absurd (pick t (text-some p) (λ v f. leading-zero p v f) e)
+  where
+    pick : (t : List ℕ) → 1 ≤ length t → ((v : List ℕ) → t ≡ 48 ∷ v → x ≡ 0) → t ++ (48 + d) ∷ [] ≡ 48 ∷ u → ⊥
+    pick [] l f e = omega arith
+    pick (b ∷ t) l f e = let z : b ≡ 48 = cc in omega (arith, f t (cc))
 
 -- a number of 64 bits takes at most 20 bytes, a signed one too
 pub decimal-few : (x : ℕ) → x < 18446744073709551616 → length (decimal x) ≤ 20

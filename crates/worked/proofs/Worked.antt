@@ -15,7 +15,8 @@ use Rattle.spines.proofs.Leaves.{some?, above?, child?, leaf?, leaf-under?, lea
 use Rattle.spines.proofs.Main.{best, main-some, main?}
 use Rattle.spines.proofs.Head.{head-some}
 use Rattle.marks.specs.Weighs.{weighs, weightUnder}
-use Rattle.pages.specs.Bytes.{bytes, row, rows}
+use Rattle.numbers.specs.Bytes.{bytes}
+use Rattle.pages.specs.Bytes.{row, rows}
 use Rattle.pages.specs.Listing.{entry}
 use Rattle.tree.specs.declared.Acceptance.the-variants as acceptance
 use Rattle.spines.specs.declared.HeadsAnswer.the-variants as written

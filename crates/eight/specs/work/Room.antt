@@ -1,4 +1,5 @@
--- What an answer has room for: the three numbers of a refusal, and a listing's counts, as signed numbers of 64 bits.
+-- What an answer has room for: the three numbers of a refusal, a listing's counts, and the sizes of a table and of
+-- texts, as signed numbers of 64 bits.
 use Prim.Native.Nat.{ℕ, _+_, _≤_, _<_}
 use Rattle.tree.specs.declared.Acceptance.{Acceptance}
 use Rattle.tree.specs.declared.Acceptance.the-variants as acceptance
@@ -14,6 +15,10 @@ use Rattle.heaviest.specs.declared.HeaviestAnswer.{HeaviestAnswer}
 use Rattle.heaviest.specs.declared.HeaviestAnswer.the-variants as heaviest
 use Rattle.listing.specs.declared.Listed.{Listed}
 use Rattle.listing.specs.declared.Listed.the-variants as listing
+use Rattle.dimacs.specs.declared.ReadAnswer.{ReadAnswer}
+use Rattle.dimacs.specs.declared.ReadAnswer.the-variants as read
+use Rattle.dimacs.specs.declared.WriteAnswer.{WriteAnswer}
+use Rattle.dimacs.specs.declared.WriteAnswer.the-variants as write
 
 -- a row below 4,096, and a ring of no more rows than that
 pub record Room (row ring : ℕ) : Type 0 where
@@ -49,3 +54,12 @@ ConversionRoom (conversion.Refused why) = Room (why .row) (why .ring)
 abbrev pub PageRoom : Listed → Type 0
 PageRoom (listing.Rows written left) = written + left < 9223372036854775808
 PageRoom (listing.Refused why) = Room (why .row) (why .ring)
+
+-- of a table made and of texts written, sizes of 63 bits
+abbrev pub ReadRoom : ReadAnswer → Type 0
+ReadRoom (read.Table size) = size < 9223372036854775808
+ReadRoom (read.Refused why) = Room (why .row) (why .ring)
+
+abbrev pub WriteRoom : WriteAnswer → Type 0
+WriteRoom (write.Texts a b) = (a < 9223372036854775808) × (b < 9223372036854775808)
+WriteRoom (write.Refused why) = Room (why .row) (why .ring)

@@ -1,0 +1,4 @@
+-- Laws of numbers as bytes, by topic.
+pub mod Reading
+pub mod Stored
+pub mod There

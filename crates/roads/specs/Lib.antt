@@ -1,0 +1,6 @@
+-- What a reader must believe of this crate; work holds what its functions promise each other, no part of an operation's
+-- promise.
+pub mod Number
+pub mod Text
+pub mod Both
+pub mod work

@@ -1,0 +1,3 @@
+-- Laws of what is told, by topic.
+pub mod Sizes
+pub mod Telling
