@@ -72,10 +72,10 @@
 #include <stdint.h>
 
 /* The library's version; CHANGES.md says how it moves. */
-#define HB_VERSION "1.6.0"
+#define HB_VERSION "1.6.1"
 #define HB_VERSION_MAJOR 1
 #define HB_VERSION_MINOR 6
-#define HB_VERSION_PATCH 0
+#define HB_VERSION_PATCH 1
 
 /* Of a mark: HB_RUN, the run by which its branch is held or spent, 0 where free; HB_SPENT, whether it is spent. */
 #define HB_RUN(mark) ((mark) & 0x7fffu)

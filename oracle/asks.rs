@@ -24,10 +24,12 @@ pub enum Op {
     Claim,
     Commit,
     Abort,
+    /// No operation: another bound for the asks that follow (README.md).
+    Bound,
 }
 
 /// Each operation's code in an ask.
-pub const CODES: [(Op, u16); 18] = [
+pub const CODES: [(Op, u16); 19] = [
     (Op::Open, 1),
     (Op::Examine, 2),
     (Op::RowPart, 3),
@@ -46,10 +48,11 @@ pub const CODES: [(Op, u16); 18] = [
     (Op::Claim, 65),
     (Op::Commit, 66),
     (Op::Abort, 67),
+    (Op::Bound, 81),
 ];
 
 /// The text is what its line begins with. `lent` is how many bytes or heads are lent, `shown` how many elements of the
-/// lent memory the line shows; a and b are two nodes or a starting pair, x a row number or a floor's 64 bits.
+/// lent memory the line shows; a and b are two nodes or a starting pair, x a row number, a floor's 64 bits or a bound.
 #[derive(Clone, PartialEq, Debug)]
 pub struct Ask {
     pub op: Op,
@@ -88,7 +91,7 @@ impl Ask {
     /// How many fields the operation's answer has.
     pub fn many(&self) -> usize {
         match self.op {
-            Op::RowPart | Op::FirstRow | Op::Convert | Op::Heads => 0,
+            Op::RowPart | Op::FirstRow | Op::Convert | Op::Heads | Op::Bound => 0,
             Op::NextRow | Op::Claim | Op::Commit | Op::Abort => 1,
             Op::Open | Op::Examine | Op::Accept | Op::Reading | Op::Listing | Op::ListingExact => 2,
             Op::Pair => 3,
@@ -110,8 +113,8 @@ impl Ask {
         line
     }
 
-    /// What the documents say to it. Claim, commit and abort change the marks.
-    pub fn answer(&self, t: &[u8], marks: &mut [u16]) -> Said {
+    /// What the documents say to it. Claim, commit and abort change the marks, a bound changes the table.
+    pub fn answer(&self, t: &mut [u8], marks: &mut [u16]) -> Said {
         let mut rows = vec![LENT; self.lent as usize];
         let mut heads = vec![LENT as u16; self.lent as usize];
         let wide = |bytes: &[u8]| Some(bytes.iter().map(|b| *b as u16).collect());
@@ -138,6 +141,10 @@ impl Ask {
             Op::Claim => net::claim(t, marks, self.run, self.a, self.b).map(|k| vec![k as i128]),
             Op::Commit => net::commit(t, marks, self.run).map(|k| vec![k as i128]),
             Op::Abort => net::abort(t, marks, self.run).map(|k| vec![k as i128]),
+            Op::Bound => {
+                net::set_bound(t, self.x as u32);
+                Ok(vec![])
+            }
         };
         let memory = match self.op {
             Op::RowPart => wide(net::part(t, self.x)),

@@ -55,13 +55,14 @@ pub fn read(input: &mut impl Read) -> Result<Vec<Case>> {
 }
 
 impl Case {
-    /// What each ask is answered, on one set of marks.
+    /// What each ask is answered, on one table and one set of marks.
     pub fn answers(&self) -> Vec<Said> {
-        let mut marks = self.marks.clone();
-        self.asks.iter().map(|q| q.answer(&self.table, &mut marks)).collect()
+        let (mut table, mut marks) = (self.table.clone(), self.marks.clone());
+        self.asks.iter().map(|q| q.answer(&mut table, &mut marks)).collect()
     }
 
-    pub fn lines(&self) -> Vec<String> {
-        self.asks.iter().zip(self.answers()).map(|(q, said)| q.line(&said)).collect()
+    /// The lines that say these answers.
+    pub fn lines(&self, answers: &[Said]) -> Vec<String> {
+        self.asks.iter().zip(answers).map(|(q, said)| q.line(said)).collect()
     }
 }

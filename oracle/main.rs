@@ -8,12 +8,14 @@ mod make_roads;
 mod net;
 mod plain;
 mod random;
+mod relaxing;
 mod reports;
 mod road_words;
 mod roads;
 mod trades;
 mod worked;
 
+use asks::Said;
 use cases::Case;
 use std::io::{stdin, stdout, BufReader, BufWriter, Result, Write};
 use trades::Trade;
@@ -63,22 +65,28 @@ fn told<T>(read: std::result::Result<T, String>) -> T {
     read.unwrap_or_else(|why| fail(&why))
 }
 
+/// The answers of case `at`, between which what Req 08 says must hold.
+fn checked(at: usize, case: &Case) -> Vec<Said> {
+    let all = case.answers();
+    if let Some(why) = relaxing::broken(case, &all) {
+        fail(&format!("case {at}, from 0, breaks Req 08: {}{why}", case.text));
+    }
+    all
+}
+
 /// The hand-worked cases with their lines.
 fn worked() -> Vec<(Case, Vec<String>)> {
-    told(worked::read()).into_iter().map(|w| (told(w.lines()), w)).map(|(lines, w)| (w.case, lines)).collect()
+    let all = told(worked::read()).into_iter().enumerate();
+    all.map(|(at, w)| (told(w.lines(&checked(at, &w.case))), w)).map(|(lines, w)| (w.case, lines)).collect()
 }
 
 fn make(seed: u64, count: usize, limit: usize, with_worked: bool) -> Vec<Case> {
+    let known = if with_worked { worked() } else { vec![] };
     let mut random: Vec<Case> = make::random_cases(seed, count, limit).into_iter().map(|p| p.case()).collect();
-    if !with_worked {
-        return random;
+    if let Some(first) = random.first_mut().filter(|_| with_worked) {
+        first.text = "\nRandom cases, twenty-one lines each.\n".to_string();
     }
-    if let Some(first) = random.first_mut() {
-        first.text = "\nRandom cases, thirteen lines each.\n".to_string();
-    }
-    let mut all: Vec<Case> = worked().into_iter().map(|(case, _)| case).collect();
-    all.append(&mut random);
-    all
+    known.into_iter().map(|(case, _)| case).chain(random).collect()
 }
 
 fn answer(out: &mut impl Write, with_worked: bool) -> Result<()> {
@@ -89,7 +97,7 @@ fn answer(out: &mut impl Write, with_worked: bool) -> Result<()> {
     }
     for (i, c) in cases.iter().enumerate() {
         write!(out, "{}", c.text)?;
-        let lines = if i < known.len() { known[i].1.clone() } else { c.lines() };
+        let lines = if i < known.len() { known[i].1.clone() } else { c.lines(&checked(i, c)) };
         for line in lines {
             writeln!(out, "{line}")?;
         }

@@ -1,6 +1,6 @@
 //! Random cases, some damaged.
 use crate::net::{self, Net};
-use crate::plain::{table, Branch, Carried, Plain};
+use crate::plain::{all_pairs, table, Branch, Carried, Plain};
 use crate::random::Random;
 
 /// The parent of each node but 0, by shape.
@@ -148,6 +148,30 @@ fn some_pair(r: &mut Random, net: &Net, marks: &[u16]) -> (u64, i64) {
     (f.length[b], f.weight[b])
 }
 
+/// A bound that is no lower: by one, to the length of some path that is longer, doubled.
+fn raise(r: &mut Random, net: &Net, marks: &[u16], bound: u32) -> u32 {
+    let longer: Vec<u64> = net.from(r.below(net.n), marks).length.into_iter().filter(|l| *l > bound as u64).collect();
+    match r.below(4) {
+        0 => bound.saturating_add(1),
+        1 => bound.saturating_mul(2),
+        _ if longer.is_empty() => bound.saturating_add(1),
+        _ => r.pick(&longer) as u32,
+    }
+}
+
+/// The bound raised twice, the second time now and then to the greatest, and the floor lowered: by one, to the least,
+/// to some pair's weight.
+fn relaxed(r: &mut Random, net: &Net, marks: &[u16], bound: u32, floor: i64) -> ([u32; 2], i64) {
+    let once = raise(r, net, marks, bound);
+    let again = if r.one_in(3) { u32::MAX } else { raise(r, net, marks, once) };
+    let lower = match r.below(4) {
+        0 => floor.saturating_sub(1),
+        1 => i64::MIN,
+        _ => floor.min(some_pair(r, net, marks).1),
+    };
+    ([once, again], lower)
+}
+
 /// One fault, of a table of this version.
 fn damage(r: &mut Random, t: &mut Vec<u8>, n: usize, version: u8) {
     let some_row = |r: &mut Random| if n < 2 { 0 } else { 12 + 12 * r.below(n - 1) };
@@ -198,7 +222,7 @@ fn random(r: &mut Random, limit: usize) -> Plain {
     };
     let version = if r.one_in(3) { 2 } else { 1 };
     let rows = branches(r, n, version);
-    // From numbers of their own, so that the tables stay the same whatever marks are made.
+    // From numbers of their own, so that the tables stay the same whatever marks are made and whatever is relaxed.
     let own = &mut Random(r.next());
     let run = run_number(own);
     let other = if own.one_in(3) { run } else { run_number(own) };
@@ -229,6 +253,7 @@ fn random(r: &mut Random, limit: usize) -> Plain {
         },
         _ => weight,
     };
+    let (raised, lower) = relaxed(own, &open, &marks, bound, floor);
     let any = |r: &mut Random| match r.below(24) {
         0 => n as u16,
         1 => r.pick(&[4095, 4096, 65535]),
@@ -258,7 +283,7 @@ fn random(r: &mut Random, limit: usize) -> Plain {
             damage_again(r, &mut t);
         }
     }
-    Plain { table: t, marks, run, other, a, b, start, room, heads, floor }
+    Plain { table: t, marks, run, other, a, b, start, room, heads, floor, raised, lower, whole: all_pairs(n) }
 }
 
 /// A second fault, so that the order of refusals shows.

@@ -108,6 +108,21 @@ fn between(n: usize, rows: &[Row], ends: [usize; 2]) -> usize {
     }
 }
 
+/// Where B stands in a table.
+const BOUND: std::ops::Range<usize> = 8..12;
+
+/// The B that a table's bytes hold, be they a table or not; none where there is no room for it.
+pub fn bound_in(s: &[u8]) -> Option<u32> {
+    s.get(BOUND).map(|part| u32_at(part, 0))
+}
+
+/// Another B. Where there is no room for it nothing changes.
+pub fn set_bound(s: &mut [u8], bound: u32) {
+    if let Some(part) = s.get_mut(BOUND) {
+        part.copy_from_slice(&bound.to_le_bytes());
+    }
+}
+
 /// Refusals 1 to 6, in document 01's order; then the node count and the bound.
 pub fn open(s: &[u8]) -> Result<(usize, u64), Refused> {
     if s.len() < 12 {

@@ -1,6 +1,7 @@
 //! A table with marks and one number of each sort, about which every operation is asked: what a random case is made of.
 use crate::asks::{Ask, Op};
 use crate::cases::Case;
+use crate::net;
 
 /// What a row carries beside its nodes and length: its weight (version 1), or a kind and a count (version 2).
 #[derive(Clone, Copy)]
@@ -30,6 +31,10 @@ pub struct Plain {
     /// Heads lent.
     pub heads: u16,
     pub floor: i64,
+    /// What is relaxed at the end (Req 08): the bound, twice, and the floor; bytes lent for the lists compared then.
+    pub raised: [u32; 2],
+    pub lower: i64,
+    pub whole: u16,
 }
 
 /// The version of a table with these rows, which are all alike; 1 where there are none.
@@ -58,15 +63,36 @@ pub fn table(n: u16, bound: u32, rows: &[Branch]) -> Vec<u8> {
     t
 }
 
+/// Bytes for all pairs of n nodes, or for as many as an ask may lend.
+pub fn all_pairs(n: usize) -> u16 {
+    (8 * n * n.saturating_sub(1)).clamp(16, 65_535) as u16
+}
+
 /// With the numbers that the worked net is asked about.
 pub fn plain(table: Vec<u8>, marks: &[u16]) -> Plain {
-    let heads = u16::from_le_bytes([table[5], table[6]]).min(4_200);
-    Plain { table, marks: marks.to_vec(), run: 7, other: 8, a: 2, b: 3, start: (0, 0), room: 160, heads, floor: 7 }
+    let nodes = u16::from_le_bytes([table[5], table[6]]);
+    let bound = net::bound_in(&table).unwrap_or(0);
+    Plain {
+        table,
+        marks: marks.to_vec(),
+        run: 7,
+        other: 8,
+        a: 2,
+        b: 3,
+        start: (0, 0),
+        room: 160,
+        heads: nodes.min(4_200),
+        floor: 7,
+        raised: [bound.saturating_add(1), u32::MAX],
+        lower: i64::MIN,
+        whole: all_pairs(nodes as usize),
+    }
 }
 
 impl Plain {
-    /// The usual asks: every operation on the table and its marks as they come, then the changes of the marks and
-    /// what is said of them then.
+    /// The usual asks: every operation on the table and its marks as they come, then the changes of the marks and what
+    /// is said of them then; at the end the bound is raised and the floor lowered. Each change stands between two asks
+    /// for the heaviest run, so that relaxing.rs can compare them.
     pub fn usual(&self) -> Vec<Ask> {
         let of = |op, text: &str| Ask::new(op, &format!("{text}:"));
         let pair = |op, text| Ask { a: self.a, b: self.b, ..of(op, text) };
@@ -74,6 +100,8 @@ impl Plain {
             let (a, b) = self.start;
             Ask { a, b, lent: self.room, x: self.floor as u64, ..of(op, text) }
         };
+        let bound = |b: u32| Ask { x: b as u64, ..of(Op::Bound, "bound") };
+        let list = |floor: i64| Ask { lent: self.whole, x: floor as u64, ..of(Op::Listing, "listing") };
         vec![
             of(Op::Accept, "accept"),
             of(Op::Convert, "convert"),
@@ -86,8 +114,16 @@ impl Plain {
             Ask { run: self.run, ..pair(Op::Claim, "claim") },
             of(Op::Heaviest, "heaviest"),
             Ask { run: self.other, ..of(Op::Commit, "commit") },
+            of(Op::Heaviest, "heaviest"),
             Ask { run: self.run, ..of(Op::Abort, "abort") },
             pair(Op::Pair, "pair"),
+            of(Op::Heaviest, "heaviest"),
+            bound(self.raised[0]),
+            of(Op::Heaviest, "heaviest"),
+            bound(self.raised[1]),
+            of(Op::Heaviest, "heaviest"),
+            list(self.floor),
+            list(self.lower),
         ]
     }
 

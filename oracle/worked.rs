@@ -317,6 +317,10 @@ impl Worked {
             (self.case.table, self.case.marks) = (table, vec![0; free]);
         } else if let Some(rest) = line.strip_prefix("marks ") {
             self.case.marks = marks(&words(rest))?;
+        } else if let Some(rest) = line.strip_prefix("now bound ") {
+            let x = number::<u32>(rest)? as u64;
+            self.case.asks.push(Ask { x, ..Ask::new(Op::Bound, &format!("{line}:")) });
+            self.answers.push(None);
         } else if line.starts_with("the usual asks") {
             let asks = usual(line, &self.case)?;
             self.answers.extend(asks.iter().map(|_| None));
@@ -332,15 +336,15 @@ impl Worked {
     }
 
     /// Its lines: of an ask that is answered in the file what is written there. This program must compute the same.
-    pub fn lines(&self) -> Read<Vec<String>> {
-        let asks = self.case.asks.iter().zip(&self.answers).zip(self.case.answers());
+    pub fn lines(&self, computed: &[Said]) -> Read<Vec<String>> {
+        let asks = self.case.asks.iter().zip(&self.answers).zip(computed);
         asks.map(|((ask, written), computed)| match written {
-            None => Ok(ask.line(&computed)),
-            Some((_, said)) if *said == computed => Ok(ask.line(said)),
+            None => Ok(ask.line(computed)),
+            Some((_, said)) if said == computed => Ok(ask.line(said)),
             Some((at, said)) => Err(format!(
                 "oracle/worked.txt:{at}: the answer written there is not the one computed:\n    {}\n    {}",
                 ask.line(said),
-                ask.line(&computed)
+                ask.line(computed)
             )),
         })
         .collect()

@@ -8,6 +8,7 @@ use changes::Change;
 use convert::Conversion;
 use heaviest::HeaviestAnswer;
 use listing::Listed;
+use numbers::put_bytes;
 use pair::PairAnswer;
 use spines::HeadsAnswer;
 use table::Opening;
@@ -223,7 +224,15 @@ fn of_marks(s: &[u8], marks: &mut [u16], q: Ask) {
     say::words(a, marks, q.shown);
 }
 
-pub(crate) fn answer(s: &[u8], marks: &mut [u16], q: Ask) {
+// No operation: another bound for the asks that follow, in the table's own bytes. A table without room for it stays.
+fn of_bound(s: &mut [u8], q: Ask) {
+    if s.len() >= 12 {
+        put_bytes(s, 8, q.x, 4);
+    }
+    say::line(say::fine(0, 0, 0));
+}
+
+pub(crate) fn answer(s: &mut [u8], marks: &mut [u16], q: Ask) {
     read::text(q.text);
     let sort = q.code / 16;
     match sort {
@@ -231,6 +240,7 @@ pub(crate) fn answer(s: &[u8], marks: &mut [u16], q: Ask) {
         1 => say::line(of_net(s, marks, q)),
         2 => of_rows(s, marks, q),
         3 => of_heads(s, q),
-        _ => of_marks(s, marks, q),
+        4 => of_marks(s, marks, q),
+        _ => of_bound(s, q),
     }
 }

@@ -4,8 +4,8 @@ mod asks;
 mod read;
 mod say;
 
-// The asks of a case, one after the other, on one set of marks.
-fn each(s: &[u8], marks: &mut [u16], count: u16) {
+// The asks of a case, one after the other, on one table and one set of marks.
+fn each(s: &mut [u8], marks: &mut [u16], count: u16) {
     let mut i: u16 = 0;
     while i < count {
         asks::answer(s, marks, read::next_ask());
@@ -13,7 +13,7 @@ fn each(s: &[u8], marks: &mut [u16], count: u16) {
     }
 }
 
-fn with_marks(s: &[u8], count: u16, asks: u16) {
+fn with_marks(s: &mut [u8], count: u16, asks: u16) {
     let size = count as usize;
     let mut space = [0u16; 4200];
     let whole = &mut space[..];

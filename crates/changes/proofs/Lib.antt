@@ -1,4 +1,5 @@
--- Laws of claim, commit and abort, by topic. Theorems has what they change; Only that each promise allows one outcome.
+-- Laws of claim, commit and abort, by topic. Theorems has what they change, Freed what is free afterwards; Only that
+-- each promise allows one outcome.
 pub mod Held
 pub mod Climbing
 pub mod Replacing
@@ -7,3 +8,4 @@ pub mod Claims
 pub mod Only
 pub mod Either
 pub mod Theorems
+pub mod Freed

@@ -1,6 +1,6 @@
 -- What a reader of demand 2 looks for: claim, commit and abort change exactly the marks named, what a commit leaves
 -- tells by whom a branch is spent, and a claim's two nodes may stand in either order. Each is read off the promises, of
--- an answer `Changed k`: nothing was refused.
+-- an answer `Changed k`: nothing was refused. What becomes of free branches, in Freed, is of refused calls too.
 use mathlib.Core.Path.{_≡_, sym, ap, _∙_}
 use mathlib.Core.Logic.{_⊎_, inl, inr}
 use mathlib.Core.List.{List}
@@ -15,8 +15,7 @@ use Rattle.tree.proofs.Begins.{begins-past, begins-map}
 use Rattle.net.proofs.Flip.{two-flip}
 use Rattle.net.proofs.Counts.{count-none, count-unique}
 use Rattle.marks.specs.Mark.{free, spend, Free, HeldBy, SpentBy, RunNumber}
-use Rattle.marks.proofs.Readings.{held?, held-not-free, spent-not-free, held-not-spent, own-held, own-spent}
-use Rattle.marks.proofs.Weights.{Alike}
+use Rattle.marks.proofs.Readings.{held?, held-not-spent, own-held, own-spent}
 use Rattle.changes.specs.Change.{changeRefusal, Changes, Settles, Commits, Aborts}
 use Rattle.changes.specs.Claim.{Taken, Claims}
 use Rattle.changes.specs.declared.Change.{Change}
@@ -91,15 +90,6 @@ module _ (s before : List ℕ) {after : List ℕ} {k : ℕ} where
         pick : Dec (HeldBy run (at before r)) → HeldBy run (at before r) ⊎ SpentBy run (at before r)
         pick (yes h) = inl h
         pick (no n) = inr (rw (committed p .1 .stays r n) at t)
-
-    -- the marks before and after are free at the same places
-    pub commit-alike : Alike before after
-    commit-alike r = pick (held? run (at before r))
-      where
-        pick : Dec (HeldBy run (at before r))
-            → (Free (at before r) → Free (at after r)) × (Free (at after r) → Free (at before r))
-        pick (yes h) = (λ f. absurd (held-not-free h f), λ f. absurd (spent-not-free (commit-spends r h) f))
-        pick (no n) = let e = committed p .1 .stays r n in (λ f. e ∙ f, λ f. sym e ∙ f)
 
 -- A CLAIM TAKES ITS TWO NODES IN EITHER ORDER
 pub claim-either : (s before : List ℕ) {run a b : ℕ} {o : Change × List ℕ} → Claims s before run a b o

@@ -1,7 +1,7 @@
 -- DEMAND 2 of the operations heaviest and heaviest_exact, stated over the test that a length must pass: in an accepted
 -- net with a mark for each branch the run found joins two different nodes within the test, and no other such pair
 -- weighs more; refusal 16, or 21, exactly if no pair passes. (11 exactly if a ring is in the table: tree's
--- proofs/Theorems. What claim, commit and abort change: marks' proofs/Theorems.)
+-- proofs/Theorems. What claim, commit and abort change: changes' proofs/Theorems.)
 use Prim.Native.Nat.{ℕ, _-_, _≤_, _<_}
 use mathlib.Core.Path.{_≡_, refl, sym, ap, _∙_}
 use mathlib.Core.Logic.{_↔_, _≢_}

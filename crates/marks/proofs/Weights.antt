@@ -1,6 +1,6 @@
 -- What `lifted_under` gives is the lift of what the branch weighs under its mark, and one number only: the lesser of
 -- two lifts is the lift of the lesser. Marks that are free at the same places weigh every branch alike: whoever reads
--- marks through `weightUnder` cannot tell holders apart.
+-- marks through `weightUnder` cannot tell holders apart; and marks that are free at more places weigh no branch less.
 use mathlib.Core.Path.{_≡_, refl, sym, ap, _∙_}
 use mathlib.Core.List.{List}
 use Prim.Native.Nat.{ℕ, zero, suc, _-_, _≤_, _<_, min}
@@ -9,13 +9,16 @@ use native.Mathlib.Decide.{ℕ-discrete}
 use native.Mathlib.Omega.{arith}
 use lib.Dec.{leb·zero}
 use lib.IntN.{ℤ, pos, negsuc, natAbs}
+use lib.Signed.{_≤ℤ_, ≤ℤ-refl}
 use Rattle.arrays.specs.At.{at}
+use Rattle.table.specs.Bound.{SameButBound}
 use Rattle.table.specs.Refuse.{Only}
 use Rattle.table.specs.work.Diff.{Diff, up, down}
 use Rattle.table.proofs.Only.{lifted-only}
 use Rattle.table.proofs.Near.{within-near}
 use Rattle.net.specs.work.Net.{Net}
 use Rattle.net.specs.Net.{weightOf}
+use Rattle.net.proofs.Bound.{weight-same}
 use Rattle.marks.specs.Mark.{Free}
 use Rattle.marks.specs.Weighs.{lesser, weighs, weightUnder}
 use Rattle.marks.specs.work.Lifted.{LiftedUnder}
@@ -96,3 +99,31 @@ holders-alike s marks marks′ a r = pick (ℕ-discrete (at marks r) 0)
     pick : Dec (Free (at marks r)) → weighs (at marks r) w ≡ weighs (at marks′ r) w
     pick (yes e) = weighs-free (at marks r) w e ∙ sym (weighs-free (at marks′ r) w (a r .0 e))
     pick (no m) = weighs-marked (at marks r) w m ∙ sym (weighs-marked (at marks′ r) w (λ e. m (a r .1 e)))
+
+-- FREEING NEVER COSTS. What is free under the first marks is free under the second: no branch weighs less under these
+abbrev pub Freer : List ℕ → List ℕ → Type 0
+Freer marks marks′ = (r : ℕ) → Free (at marks r) → Free (at marks′ r)
+
+lesser-at-most : (w : ℤ) → lesser (pos 0) w ≤ℤ w
+lesser-at-most (pos n) = rw (leb·zero n) (record { le = rw (leb·zero n) tt })
+lesser-at-most (negsuc n) = ≤ℤ-refl (negsuc n)
+
+pub freer-weighs : (s marks marks′ : List ℕ) → Freer marks marks′ → (r : ℕ)
+    → weightUnder s marks r ≤ℤ weightUnder s marks′ r
+unfolding weightUnder
+freer-weighs s marks marks′ f r = pick (ℕ-discrete (at marks r) 0) (ℕ-discrete (at marks′ r) 0)
+  where
+    w : ℤ
+    w = weightOf s r
+
+    pick : Dec (Free (at marks r)) → Dec (Free (at marks′ r)) → weighs (at marks r) w ≤ℤ weighs (at marks′ r) w
+    pick (yes e) (yes g) = rw (weighs-free (at marks r) w e, weighs-free (at marks′ r) w g) (≤ℤ-refl w)
+    pick (yes e) (no m) = absurd (m (f r e))
+    pick (no m) (yes g) = rw (weighs-marked (at marks r) w m, weighs-free (at marks′ r) w g) (lesser-at-most w)
+    pick (no m) (no o) =
+        rw (weighs-marked (at marks r) w m, weighs-marked (at marks′ r) w o) (≤ℤ-refl (lesser (pos 0) w))
+
+-- two tables equal but for the bytes of B weigh every branch alike
+pub under-same : {s t : List ℕ} → SameButBound s t → (marks : List ℕ) → weightUnder s marks ≡ weightUnder t marks
+unfolding weightUnder
+under-same e marks = λ i r. weighs (at marks r) (weight-same e i r)

@@ -12,6 +12,7 @@ pub mod Counts
 pub mod Rooted
 pub mod Values
 pub mod Net
+pub mod Bound
 pub mod Above
 pub mod Climbs
 pub mod Route

@@ -1,6 +1,6 @@
 -- Laws of the number that a row has by the ring that it closes. It is one where the rows before it are a forest, since
--- these have one path between its ends; so the promise that names the first such row allows one outcome. Where the
--- row's ends differ, the number is that of the rows of a ring.
+-- these have one path between its ends; so two promises that name the first such row give related outcomes where what
+-- follows does. Where the row's ends differ, the number is that of the rows of a ring.
 use Prim.Native.Nat.{ℕ, _+_, _≤_, _<_}
 use mathlib.Core.Path.{_≡_, refl, sym, ap, _∙_}
 use mathlib.Core.Logic.{_≢_, _↔_}
@@ -14,7 +14,7 @@ use Rattle.net.specs.work.Forest.{Forest}
 use Rattle.net.specs.Path.{Path}
 use Rattle.net.specs.Ring.{RingRows, apart, closed}
 use Rattle.arrays.proofs.Members.{not-nil}
-use Rattle.net.proofs.After.{first-bad-after, settled-after}
+use Rattle.net.proofs.After.{both-after, settled-after}
 use Rattle.net.proofs.OnePath.{unique}
 use Rattle.net.proofs.Counts.{count-below}
 use Rattle.net.proofs.RingExactly.{once, path-ring}
@@ -51,9 +51,10 @@ module _ (u v : ℕ → ℕ) where
   ring-rows-only f x y (closed rs p e) (closed qs q d) =
       e ∙ ap (λ (l : List ℕ). 1 + length l) (unique u v f (p .1) (q .1) (p .2) (q .2) .0) ∙ sym d
 
-  pub rings-only : {A : Type 0} {refuse : ℕ → ℕ → A} {m : ℕ} {rest : A → Type 0} → Only rest
-      → Only (FirstBad A refuse m (RingRows u v) rest)
-  rings-only o = first-bad-after (λ i before. ring-rows-only (rows-open before)) o
+  pub rings-both : {A : Type 0} (R : A → A → Type 0) {refuse : ℕ → ℕ → A} → ((k r : ℕ) → R (refuse k r) (refuse k r))
+      → {m : ℕ} {rest rest′ : A → Type 0} → ((x y : A) → rest x → rest′ y → R x y) → (x y : A)
+      → FirstBad A refuse m (RingRows u v) rest x → FirstBad A refuse m (RingRows u v) rest′ y → R x y
+  rings-both R self o = both-after (λ i before. ring-rows-only (rows-open before)) R self o
 
   pub rings-settled : {A : Type 0} {refuse : ℕ → ℕ → A} {m : ℕ} {rest : A → Type 0} {x : A}
       → Forest u v m → FirstBad A refuse m (RingRows u v) rest x → rest x

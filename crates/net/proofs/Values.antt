@@ -1,10 +1,12 @@
 -- The length and the weight of a path: one of each; a step further from the start adds the branch to both, a step
--- nearer takes it off both; they depend on nothing but what the rows have.
+-- nearer takes it off both; they depend on nothing but what the rows have, and no row weighing less, no path does.
 use Prim.Native.Nat.{ℕ, _+_, _<_}
 use mathlib.Core.Path.{_≡_, refl, sym, ap, _∙_}
 use mathlib.Core.Logic.{_≢_}
 use mathlib.Core.List.{List, [], _∷_, _++_}
 use lib.IntN.{ℤ, pos, _+ℤ_, +ℤ-assoc, +ℤ-idl, +ℤ-idr}
+use lib.Signed.{_≤ℤ_, ≤ℤ-refl}
+use Rattle.table.proofs.Order.{sums-keep}
 use Rattle.net.specs.Graph.{stop}
 use Rattle.net.specs.work.Forest.{Forest}
 use Rattle.net.specs.Path.{Sum}
@@ -25,6 +27,12 @@ pub total-same : (f g : ℕ → ℤ) (rs : List ℕ) → ((r : ℕ) → f r ≡ 
 unfolding Total
 total-same f g [] h = refl
 total-same f g (r ∷ rs) h = cc (h r, total-same f g rs h)
+
+-- no weight less, no sum less
+pub total-keeps : (f g : ℕ → ℤ) (rs : List ℕ) → ((r : ℕ) → f r ≤ℤ g r) → Total f rs ≤ℤ Total g rs
+unfolding Total
+total-keeps f g [] h = ≤ℤ-refl (pos 0)
+total-keeps f g (r ∷ rs) h = sums-keep (h r) (total-keeps f g rs h)
 
 module _ (u v : ℕ → ℕ) {k : ℕ} {long : ℕ → ℕ} {heavy : ℕ → ℤ} where
   pub value-none : (a : ℕ) → Value u v k long heavy a a 0 (pos 0)

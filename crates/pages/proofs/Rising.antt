@@ -10,7 +10,7 @@ use Rattle.arrays.proofs.Members.{not-nil, in-cases, in-left, in-right, in-eith
 pub rising-head : {x : Entry} {l : List Entry} → Rising (x ∷ l) → (y : Entry) → In y l → Before x y
 rising-head (more f r) = f
 
-rising-tail : {x : Entry} {l : List Entry} → Rising (x ∷ l) → Rising l
+pub rising-tail : {x : Entry} {l : List Entry} → Rising (x ∷ l) → Rising l
 rising-tail (more f r) = r
 
 pub rising-right : (l : List Entry) {m : List Entry} → Rising (l ++ m) → Rising m

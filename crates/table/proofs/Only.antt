@@ -1,6 +1,6 @@
 -- Each promise of this crate allows one outcome. The header's and the rows' follow along their lists of refusals; a
 -- part, a row number and a row by whether the row stands there.
-use mathlib.Core.Path.{_≡_, sym, _∙_}
+use mathlib.Core.Path.{_≡_, refl, sym, _∙_}
 use mathlib.Core.List.{List, []}
 use Prim.Native.Nat.{ℕ, _+_, _*_, _<_}
 use native.Mathlib.Decide.{decLe, decLt}
@@ -14,19 +14,34 @@ use Rattle.table.specs.Reader.{HeldOf, Stepped, FirstOf}
 use Rattle.table.specs.work.Lift.{LiftedOf, LoweredOf}
 use Rattle.table.specs.Examine.{Tested}
 use Rattle.table.specs.Opens.{openingRefusal, Opens, Examines}
-use Rattle.table.proofs.Refusals.{unless-only, first-bad-only}
+use Rattle.table.proofs.Refusals.{unless-both, first-bad-both}
 use Rattle.table.proofs.Range.{within?}
 use Rattle.table.proofs.Accepted.{row-number-only}
 use Rattle.table.proofs.Lift.{diff-only, lift-only}
 
-pub header-only : {A : Type 0} (refuse : ℕ → ℕ → A) (s : List ℕ) {rest : A → Type 0} → Only rest
-    → Only (Header A refuse s rest)
-header-only refuse s o = unless-only (unless-only (unless-only (unless-only (unless-only (unless-only o)))))
+-- two promises that begin with one table's own tests give related outcomes, where each refusal is related to itself and
+-- what follows is; so one outcome, where what follows allows one
+module _ {A : Type 0} (R : A → A → Type 0) (refuse : ℕ → ℕ → A) (self : (k r : ℕ) → R (refuse k r) (refuse k r))
+    (s : List ℕ) where
+  header-both : {rest rest′ : A → Type 0} → ((x y : A) → rest x → rest′ y → R x y) → (x y : A)
+      → Header A refuse s rest x → Header A refuse s rest′ y → R x y
+  header-both o =
+      unless-both R (self 1 0)
+      (λ _. unless-both R (self 2 0)
+      (λ _. unless-both R (self 3 0)
+      (λ _. unless-both R (self 4 0) (λ _. unless-both R (self 5 0) (λ _. unless-both R (self 6 0) (λ _. o))))))
 
-pub tested-only : {A : Type 0} (refuse : ℕ → ℕ → A) (s : List ℕ) {rest : A → Type 0} → Only rest
+  pub tested-both : {rest rest′ : A → Type 0} → ((x y : A) → rest x → rest′ y → R x y) → (x y : A)
+      → Tested A refuse s rest x → Tested A refuse s rest′ y → R x y
+  tested-both o = header-both (first-bad-both R self (row-number-only (nodesOf s) s) o)
+
+header-only : {A : Type 0} (refuse : ℕ → ℕ → A) (s : List ℕ) {rest : A → Type 0} → Only rest
+    → Only (Header A refuse s rest)
+header-only refuse s = header-both (λ x y. x ≡ y) refuse (λ k r. refl) s
+
+tested-only : {A : Type 0} (refuse : ℕ → ℕ → A) (s : List ℕ) {rest : A → Type 0} → Only rest
     → Only (Tested A refuse s rest)
-tested-only refuse s o =
-    header-only refuse s (first-bad-only (row-number-only (nodesOf s) s) o)
+tested-only refuse s = tested-both (λ x y. x ≡ y) refuse (λ k r. refl) s
 
 pub open-only : (s : List ℕ) → Only (Opens s)
 open-only s = header-only openingRefusal s (λ x y p q. p ∙ sym q)

@@ -1,5 +1,6 @@
 -- What a reader must believe of this crate; work holds what its functions promise each other, no part of an operation's
 -- promise.
+pub mod Bound
 pub mod Bytes
 pub mod Examine
 pub mod Header

@@ -5,7 +5,7 @@
 -- and nowhere above.
 use Prim.Native.Nat.{ℕ, _+_, _-_, _≤_, _<_}
 use mathlib.Core.Path.{_≡_, refl, sym, ap, _∙_}
-use mathlib.Core.Logic.{_⊎_, inl, inr, _≢_}
+use mathlib.Core.Logic.{inl, inr, _≢_}
 use mathlib.Core.List.{List}
 use native.Mathlib.Omega.{arith}
 use Rattle.table.specs.Refuse.{refused, passed, bad, fine, Only}
@@ -14,10 +14,10 @@ use Rattle.table.specs.Opens.{openingRefusal, Examines}
 use Rattle.table.specs.declared.Refusal as why
 use Rattle.table.specs.declared.Opening.{Opening}
 use Rattle.table.specs.declared.Opening.the-variants as opening
-use Rattle.table.proofs.Refusals.{past, past-rows, settled, unless-only, unless-map, first-bad-map, by-unless, by-rows}
+use Rattle.table.proofs.Refusals.{past, past-rows, settled, unless-both, unless-map, first-bad-map, by-unless, by-rows}
 use Rattle.table.proofs.Accepted.{GoodTable, Own, accepted, tested-past, tested-map, tested-rest, by-tested}
 use Rattle.table.proofs.Accepted as table
-use Rattle.table.proofs.Only.{tested-only}
+use Rattle.table.proofs.Only.{tested-both}
 use Rattle.net.specs.work.Forest.{Forest}
 use Rattle.net.specs.Net.{firstEnd, secondEnd, lengthOf, weightOf, Whole}
 use Rattle.net.specs.work.Net.{Net}
@@ -31,7 +31,7 @@ use Rattle.tree.specs.declared.Refusal.{Refusal}
 use Rattle.tree.specs.declared.Acceptance.{Acceptance}
 use Rattle.tree.specs.declared.Acceptance.the-variants.{Accepted, Refused}
 use Rattle.reach.proofs.Grown.{reached-all, all-joined}
-use Rattle.net.proofs.RingRows.{row-open, rows-open, open-rows, rings-only, rings-settled, most-rows}
+use Rattle.net.proofs.RingRows.{row-open, rows-open, open-rows, rings-both, rings-settled, most-rows}
 
 -- an accepted net's two numbers, and that it is no refusal
 abbrev nodesIn : Acceptance → ℕ
@@ -228,23 +228,24 @@ pub begins-rest : {A : Type 0} (refuse : ℕ → ℕ → ℕ → A) (s : List �
     → Accepts s (Accepted (nodesOf s) (boundOf s)) → Begins A refuse s rest x → rest x
 begins-rest refuse s p = sound-rest refuse s (accept-sound s (nodesOf s) (boundOf s) p .0)
 
--- Two promises that begin alike give equal outcomes, where their rests do of an accepted net
+-- Two promises that begin alike give related outcomes, where each refusal is related to itself and their rests are, of
+-- an accepted net;
+pub begins-both : {A : Type 0} (R : A → A → Type 0) (refuse : ℕ → ℕ → ℕ → A) (s : List ℕ) {rest rest′ : A → Type 0}
+    → ((k r g : ℕ) → R (refuse k r g) (refuse k r g)) → (Net s (nodesOf s) → (x y : A) → rest x → rest′ y → R x y)
+    → (x y : A) → Begins A refuse s rest x → Begins A refuse s rest′ y → R x y
+begins-both {A} R refuse s {rest} {rest′} self o x y p q =
+    tested-both R (λ k r. refuse k r 0) (λ k r. self k r 0) s
+    (rings-both (firstEnd s) (secondEnd s) R (λ g r. self 11 r g) (unless-both R (self 12 0 0) (λ _. of-net))) x y
+    (begins-map (λ z. z) refuse s (λ n r. (n, r)) p) q
+  where
+    of-net : (x y : A) → Net s (nodesOf s) × rest x → rest′ y → R x y
+    of-net x y h = o (h .0) x y (h .1)
+
+-- so equal ones, where their rests do;
 pub begins-alike : {A : Type 0} (refuse : ℕ → ℕ → ℕ → A) (s : List ℕ) {rest rest′ : A → Type 0}
     → (Net s (nodesOf s) → (x y : A) → rest x → rest′ y → x ≡ y) → (x y : A) → Begins A refuse s rest x
     → Begins A refuse s rest′ y → x ≡ y
-begins-alike {A} refuse s {rest} {rest′} alike x y p q =
-    tested-only (λ k r. refuse k r 0) s (rings-only (firstEnd s) (secondEnd s) (unless-only one)) x y
-    (begins-map (λ o. o) refuse s (λ n r. inl (refl, n, r)) p)
-    (begins-map (λ o. o) refuse s (λ n r. inr (refl, r)) q)
-  where
-    Two : A → Type 0
-    Two z = ((z ≡ x) × Net s (nodesOf s) × rest x) ⊎ ((z ≡ y) × rest′ y)
-
-    one : Only Two
-    one a b (inl h) (inl k) = h .0 ∙ sym (k .0)
-    one a b (inl h) (inr k) = h .0 ∙ alike (h .1) x y (h .2) (k .1) ∙ sym (k .0)
-    one a b (inr h) (inl k) = h .0 ∙ sym (alike (k .1) x y (k .2) (h .1)) ∙ sym (k .0)
-    one a b (inr h) (inr k) = h .0 ∙ sym (k .0)
+begins-alike refuse s = begins-both (λ x y. x ≡ y) refuse s (λ k r g. refl)
 
 -- so there is one outcome, where the rest allows one, and where it does of an accepted net;
 pub begins-only : {A : Type 0} (refuse : ℕ → ℕ → ℕ → A) (s : List ℕ) {rest : A → Type 0} → Only rest

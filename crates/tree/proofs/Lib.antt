@@ -1,6 +1,7 @@
 -- Laws of acceptance, by topic, for this crate and those above.
 pub mod Around
 pub mod Begins
+pub mod Bound
 pub mod Eleven
 pub mod Theorems
 pub mod Meeting

@@ -13,7 +13,7 @@ use Rattle.spines.specs.Heads.{Headings}
 use Rattle.spines.specs.declared.HeadsAnswer.{HeadsAnswer}
 use Rattle.changes.specs.declared.Change.{Change}
 use Rattle.changes.specs.Claim.{Claims}
-use Rattle.heaviest.specs.Heaviest.{HeaviestOf}
+use Rattle.heaviest.specs.Heaviest.{HeaviestOf, HeaviestExactOf}
 use Rattle.heaviest.specs.declared.HeaviestAnswer.{HeaviestAnswer}
 use Rattle.pair.specs.Pair.{PairOf}
 use Rattle.pair.specs.declared.PairAnswer.{PairAnswer}
@@ -28,6 +28,7 @@ pub record LeavesAre (s nodes : List ℕ) : Type 0 where
 pub data Case : Type 0 where
   accept : (s : List ℕ) → Acceptance → Case
   heaviest : (s marks : List ℕ) → HeaviestAnswer → Case
+  exact : (s marks : List ℕ) → HeaviestAnswer → Case
   listing : (s marks : List ℕ) (floor : ℤ) (low high : ℕ) (lent : List ℕ) → Listed × List ℕ → Case
   heads : (s lent : List ℕ) → HeadsAnswer × List ℕ → Case
   leaves : (s nodes : List ℕ) → Case
@@ -37,6 +38,7 @@ pub data Case : Type 0 where
 abbrev pub Holds : Case → Type 0
 Holds (accept s o) = Accepts s o
 Holds (heaviest s marks o) = HeaviestOf s marks o
+Holds (exact s marks o) = HeaviestExactOf s marks o
 Holds (listing s marks floor low high lent o) = ListingOf s marks floor low high lent o
 Holds (heads s lent o) = Headings s lent o
 Holds (leaves s nodes) = LeavesAre s nodes

@@ -1,6 +1,6 @@
 -- The starred cases of document 01 and those that document 02, Req 01 and Req 03, gives: the small net N5 under several
 -- bounds, and with a row repeated; what is asked of it, and the answers. Then, for Req 05, a net of its shape in
--- version 2.
+-- version 2; and for Req 08 the smallest net with a run, where in the exact mode a larger B loses it.
 use Prim.Native.Nat.{ℕ}
 use mathlib.Core.List.{List, [], _∷_, _++_}
 use lib.IntN.{pos, negsuc}
@@ -12,7 +12,7 @@ use Rattle.heaviest.specs.Heaviest.{heaviestRefusal}
 use Rattle.heaviest.specs.declared.HeaviestAnswer.the-variants.{Between}
 use Rattle.listing.specs.declared.Listed.the-variants.{Rows}
 use Rattle.pair.specs.declared.PairAnswer.the-variants.{Found}
-use Rattle.worked.specs.Case.{Case, accept, heaviest, listing, heads, leaves, pair, claim}
+use Rattle.worked.specs.Case.{Case, accept, heaviest, exact, listing, heads, leaves, pair, claim}
 
 -- a table: R T N, version 1, 5 nodes, reserved, bound B (below 256); then the rows
 -- (0,1) 4, 5; (a,b) 3, 2; (1,3) 6, 7; (3,4) 2, −3
@@ -37,6 +37,12 @@ cells5 bound =
     ++ (1 ∷ 0 ∷ 2 ∷ 0 ∷ 3 ∷ 0 ∷ 0 ∷ 0 ∷ 0 ∷ 0 ∷ 2 ∷ 0 ∷ [])
     ++ (1 ∷ 0 ∷ 3 ∷ 0 ∷ 6 ∷ 0 ∷ 0 ∷ 0 ∷ 0 ∷ 0 ∷ 7 ∷ 0 ∷ [])
     ++ (3 ∷ 0 ∷ 4 ∷ 0 ∷ 2 ∷ 0 ∷ 0 ∷ 0 ∷ 32 ∷ 0 ∷ 1 ∷ 0 ∷ [])
+
+-- two nodes: the row (0,1) 0, 0
+unfoldable pub net2 : ℕ → List ℕ
+net2 bound =
+    (82 ∷ 84 ∷ 78 ∷ 1 ∷ 0 ∷ 2 ∷ 0 ∷ 0 ∷ bound ∷ 0 ∷ 0 ∷ 0 ∷ [])
+    ++ (0 ∷ 0 ∷ 1 ∷ 0 ∷ 0 ∷ 0 ∷ 0 ∷ 0 ∷ 0 ∷ 0 ∷ 0 ∷ 0 ∷ [])
 
 unfoldable pub unmarked : List ℕ
 unmarked = 0 ∷ 0 ∷ 0 ∷ 0 ∷ []
@@ -87,4 +93,6 @@ cases =
     ∷ heaviest (cells5 9) unmarked (Between 2 3 9 (pos 9))
     ∷ heaviest (cells5 2) unmarked (Between 3 4 2 (negsuc 49))
     ∷ pair (cells5 9) unmarked 2 4 (Found 11 (negsuc 40) 2)
+    ∷ exact (net2 0) (0 ∷ []) (Between 0 1 0 (pos 0))
+    ∷ exact (net2 1) (0 ∷ []) (heaviestRefusal 21 0 0)
     ∷ []

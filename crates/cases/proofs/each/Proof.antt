@@ -1,4 +1,4 @@
--- `each` ends: one ask less is left at each turn. An ask keeps how many marks there are.
+-- `each` ends: one ask less is left at each turn. An ask keeps how many bytes and how many marks there are.
 use Prim.Native.Nat.{_-_, _≤_}
 use mathlib.Core.Path.{_≡_}
 use lib.ListN.{length}
@@ -7,13 +7,13 @@ use Rattle.cases.proofs.each.Statement.{statement}
 use Rattle.cases.proofs.each.Tie as tie
 
 abbrev Inv-loop : tie.InvT-loop
-Inv-loop s marks₀ count i₀ marks i = (i ≤ count) × (length marks ≡ length marks₀)
+Inv-loop s₀ marks₀ count i₀ s marks i = (i ≤ count) × (length s ≡ length s₀) × (length marks ≡ length marks₀)
 
 abbrev μ-loop : tie.MeasureT-loop
-μ-loop s marks₀ count i₀ marks i = count - i
+μ-loop s₀ marks₀ count i₀ s marks i = count - i
 
 loop-holds : tie.Need-loop-holds Inv-loop μ-loop
-loop-holds c = (omega arith, omega arith)
+loop-holds c = (omega arith, omega arith, omega arith)
 
 next-ask-requires : tie.Need-next-ask-requires Inv-loop μ-loop
 next-ask-requires c κs = tt
@@ -28,10 +28,13 @@ loop-less : tie.Need-loop-less Inv-loop μ-loop
 loop-less c = omega arith
 
 loop-again : tie.Need-loop-again Inv-loop μ-loop
-loop-again c = (omega arith, omega arith)
+loop-again c = (omega arith, omega arith, omega arith)
 
 same-length : tie.Need-same-length Inv-loop μ-loop
 same-length c = omega arith
+
+same-length-2 : tie.Need-same-length-2 Inv-loop μ-loop
+same-length-2 c = omega arith
 
 returns : tie.Need-returns Inv-loop μ-loop
 returns c = tt
@@ -49,4 +52,5 @@ each-spec =
     loop-less
     loop-again
     same-length
+    same-length-2
     returns)
