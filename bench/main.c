@@ -1,6 +1,7 @@
 /* Measures the library beside the plain scan: one run, the same tables, marks and buffers, lent to both. Writes the
    figures to standard output, the plot of heaviest, with the second argument below it, to the file that the first
-   names, and how far it is to standard error. Ends with status 1 where the two give different answers. */
+   names, and how far it is to standard error. Ends with status 1 where the two give different answers, or a window has
+   no pair. */
 #include "hourbench.h"
 #include "nets.h"
 #include "scan.h"
@@ -13,12 +14,15 @@
 
 enum { SIZES = 3, PAGE = 65536 };
 /* The operations that are measured, and from OPS on those that are only compared; 2: of the table of version 2. */
-enum op { HEAVIEST, HEAVIEST_EXACT, LISTING, LISTING_EXACT, PAIR, PAIR_2, CLAIM, CONVERT, RING, OPS,
-          ACCEPT_2 = OPS, HEAVIEST_2, LISTING_2, COMMIT, ALL };
+enum op { HEAVIEST, HEAVIEST_EXACT, LISTING, LISTING_EXACT, WINDOW, WINDOW_LIST, WINDOW_HALF, WINDOW_LIST_HALF,
+          PAIR, PAIR_2, CLAIM, CONVERT, RING, OPS,
+          ACCEPT_2 = OPS, HEAVIEST_2, LISTING_2, WINDOW_2, WINDOW_LIST_2, COMMIT, ALL };
 static const size_t sizes[SIZES] = {256, 1024, 4096};
-static const char *op_names[ALL] = {"Heaviest", "Heaviest exact", "Listing", "Listing exact", "Pair", "Pair, version 2",
-                                    "Claim and abort", "Convert", "Refusal 11", "Acceptance, version 2",
-                                    "Heaviest, version 2", "Listing, version 2", "Claim and commit"};
+static const char *op_names[ALL] = {"Heaviest", "Heaviest exact", "Listing", "Listing exact", "Window", "Window list",
+                                    "Window with an upper limit", "Window list with an upper limit",
+                                    "Pair", "Pair, version 2", "Claim and abort", "Convert", "Refusal 11",
+                                    "Acceptance, version 2", "Heaviest, version 2", "Listing, version 2",
+                                    "Window, version 2", "Window list, version 2", "Claim and commit"};
 
 static uint8_t table[12 * 4096], table_2[12 * 4096], ringed[12 * 4096], page_scan[PAGE], page_library[PAGE];
 static uint16_t marks_scan[4096], marks_library[4096];
@@ -27,6 +31,11 @@ static double took[SHAPES][SIZES][OPS][2]; /* seconds a call: scan, library */
 static double equal_took[SHAPES][OPS];     /* the library's, 4,096 nodes, all lengths equal; heaviest and
                                               listing alone */
 static int64_t best[8], best_exact[8], best_2[8];
+/* The window: from one branch on, with no upper limit or, where that is said, up to one more than half of the net's
+   most; and from SUM_LOW to SUM_HIGH. Every branch of the nets weighs so much, marked or
+   not, so that on each of them some pair is in it. */
+enum { SUM_LOW = -100, SUM_HIGH = 100 };
+static uint32_t count_high;
 static int differ;
 
 static uint64_t seed;
@@ -55,6 +64,19 @@ static void call(int op, int library, uint16_t a, uint16_t b, int64_t answer[8])
     case HEAVIEST_2: (library ? hb_heaviest : scan_heaviest)(table_2, table_len, marks, m, answer); break;
     case LISTING_2:
         (library ? hb_listing : scan_listing)(table_2, table_len, marks, m, best_2[6] - 50, 0, 0, page, PAGE, answer);
+        break;
+    case WINDOW:
+    case WINDOW_HALF:
+    case WINDOW_2:
+        (library ? hb_window : scan_window)(op == WINDOW_2 ? table_2 : table, table_len, marks, m, 1,
+                                            op == WINDOW ? UINT32_MAX : count_high, SUM_LOW, SUM_HIGH, answer);
+        break;
+    case WINDOW_LIST:
+    case WINDOW_LIST_HALF:
+    case WINDOW_LIST_2:
+        (library ? hb_window_list : scan_window_list)(op == WINDOW_LIST_2 ? table_2 : table, table_len, marks, m, 1,
+                                                      op == WINDOW_LIST ? UINT32_MAX : count_high, SUM_LOW, SUM_HIGH,
+                                                      0, 0, page, PAGE, answer);
         break;
     case CONVERT: (library ? hb_convert : scan_convert)(table, table_len, marks, m, answer); break;
     case RING: (library ? hb_accept : scan_accept)(ringed, table_len, answer); break;
@@ -89,6 +111,12 @@ static double measure(int op, int library) {
     return second_least(next_nodes, call_asked, &q);
 }
 
+/* Has a window no pair, or its list no row, by this answer? Such a window would not do. */
+static int is_empty(int op, const int64_t answer[8]) {
+    if (op == WINDOW || op == WINDOW_HALF || op == WINDOW_2) return answer[0] != 0;
+    return (op == WINDOW_LIST || op == WINDOW_LIST_HALF || op == WINDOW_LIST_2) && answer[3] == 0;
+}
+
 /* Equal answers, page and marks; for pair on fifty pairs. Leaves the marks as they were. */
 static void compare(int op, const char *shape) {
     uint16_t before[4096];
@@ -105,6 +133,10 @@ static void compare(int op, const char *shape) {
             printf("DIFFERENT: %s of %s with %zu nodes\n", op_names[op], shape, n);
             differ = 1;
         }
+        if (is_empty(op, q.answer)) {
+            printf("EMPTY: %s of %s with %zu nodes\n", op_names[op], shape, n);
+            differ = 1;
+        }
     }
     memcpy(marks_scan, before, sizeof before), memcpy(marks_library, before, sizeof before);
 }
@@ -114,8 +146,8 @@ static void mark_every_third(uint16_t mark, uint16_t other) {
     for (size_t r = 0; r + 1 < n; r += 3) marks_scan[r] = marks_library[r] = r % 2 ? other : mark;
 }
 
-/* The next net of a shape, all branches free; its heaviest runs are what listings and claims go by. Beside it the same
-   net weighed by kind, and the same with a ring. */
+/* The next net of a shape, all branches free; its heaviest runs are what listings and claims go by, its most branches
+   what windows do. Beside it the same net weighed by kind, and the same with a ring. */
 static void take_net(int shape, size_t nodes, enum lengths lengths) {
     n = nodes;
     table_len = make_net(shape, n, lengths, table);
@@ -126,6 +158,9 @@ static void take_net(int shape, size_t nodes, enum lengths lengths) {
     scan_heaviest(table, table_len, marks_scan, n - 1, best);
     scan_heaviest_exact(table, table_len, marks_scan, n - 1, best_exact);
     scan_heaviest(table_2, table_len, marks_scan, n - 1, best_2);
+    int64_t most[8];
+    scan_window(table, table_len, marks_scan, n - 1, 1, UINT32_MAX, INT64_MIN, INT64_MAX, most);
+    count_high = (uint32_t)most[5] / 2 + 1;
 }
 
 /* The same under marks, held by run 9 and spent by run 7, so that what a marked row weighs is compared too, and that a
@@ -215,6 +250,7 @@ static void measure_equal(void) {
             compare(op, shape_names[s]);
             equal_took[s][op] = measure(op, 1);
         }
+        for (int op = WINDOW; op <= WINDOW_LIST_HALF; op++) compare(op, shape_names[s]);
     }
 }
 
@@ -272,7 +308,7 @@ int main(int argc, char **argv) {
     }
     print_modes();
     differ |= measure_trades();
-    printf("%s\n", differ ? "ANSWERS DIFFER" : "All answers were equal.");
+    printf("%s\n", differ ? "ANSWERS DIFFER, OR A WINDOW IS EMPTY" : "All answers were equal.");
     plot(argv[1], argv[2]);
     return differ;
 }

@@ -1,5 +1,6 @@
-/* The plain scan (scan.h). Refusals, rows, neighbours, then a walk from a node that gives every length and weight: for
-   one node, or for each in turn; the rows of a ring by a walk too. Its hops are left 0: a scan has no spines. */
+/* The plain scan (scan.h). Refusals, rows, neighbours, then a walk from a node that gives every length and weight, or
+   for a window every count and weight: for one node, or for each in turn; the rows of a ring by a walk too. A walk goes
+   to every node, also past the bound or a window's upper count limit. Its hops are left 0: a scan has no spines. */
 #include "scan.h"
 #include <string.h>
 
@@ -18,6 +19,17 @@ typedef struct {
     int64_t length[MOST], weight[MOST];
     uint16_t last[MOST], from[MOST]; /* the row and the node by which each node was reached */
 } paths;
+
+/* A node that a walk has reached: by what row, and the path's weight and how many branches it has. */
+typedef struct {
+    int64_t weight;
+    uint16_t node, last, count;
+} place;
+
+typedef struct {
+    uint32_t count_low, count_high;
+    int64_t sum_low, sum_high;
+} window;
 
 static uint32_t u16(const uint8_t *s) { return s[0] | (uint32_t)s[1] << 8; }
 static uint32_t u32(const uint8_t *s) { return u16(s) | u16(s + 2) << 16; }
@@ -207,6 +219,11 @@ static void put(uint8_t *to, uint64_t x, size_t bytes) {
     for (size_t i = 0; i < bytes; i++) to[i] = (uint8_t)(x >> 8 * i);
 }
 
+static void put_row(uint8_t *row, size_t a, size_t b, const paths *p) {
+    put(row, a, 2), put(row + 2, b, 2), put(row + 4, (uint64_t)p->length[b], 4),
+        put(row + 8, (uint64_t)p->weight[b], 8);
+}
+
 /* The pairs within the bound, or of exactly its length. */
 static uint8_t list(const uint8_t *table, size_t table_len, const uint16_t *marks, size_t marks_len, int exact,
                     int64_t floor, uint16_t from_low, uint16_t from_high,
@@ -223,13 +240,8 @@ static uint8_t list(const uint8_t *table, size_t table_len, const uint16_t *mark
         for (size_t b = a + 1; b < t.n; b++) {
             if (p.length[b] > t.bound || p.length[b] < least || p.weight[b] < floor) continue;
             if (a == from_low && b <= from_high) continue;
-            if (written == room) {
-                left++;
-                continue;
-            }
-            uint8_t *row = rows + 16 * written++;
-            put(row, a, 2), put(row + 2, b, 2), put(row + 4, (uint64_t)p.length[b], 4),
-                put(row + 8, (uint64_t)p.weight[b], 8);
+            if (written == room) left++;
+            else put_row(rows + 16 * written++, a, b, &p);
         }
     }
     refuse(answer, 0, 0);
@@ -246,6 +258,110 @@ uint8_t scan_listing_exact(const uint8_t *table, size_t table_len, const uint16_
                            int64_t floor, uint16_t from_low, uint16_t from_high,
                            uint8_t *rows, size_t rows_len, int64_t answer[8]) {
     return list(table, table_len, marks, marks_len, 1, floor, from_low, from_high, rows, rows_len, answer);
+}
+
+/* 30. */
+static int no_window(window w) { return w.count_low == 0 || w.count_low > w.count_high || w.sum_low > w.sum_high; }
+
+/* The most branches that a pair in the window has whose lower node is a; 0 where none has `least` or more. The count is
+   tested once for all neighbours of a node, which share it. */
+static uint32_t most_from(const net *t, uint16_t a, window w, uint32_t least) {
+    place stack[MOST];
+    size_t top = 0;
+    uint32_t most = 0;
+    if (least < w.count_low) least = w.count_low;
+    stack[top++] = (place){.node = a, .last = 65535};
+    while (top) {
+        place x = stack[--top];
+        uint32_t count = x.count + 1u;
+        int asked = count >= least && count <= w.count_high;
+        for (uint32_t h = t->first[x.node]; h < t->first[x.node + 1]; h++) {
+            uint16_t r = t->row[h], y = t->to[h];
+            if (r == x.last) continue;
+            int64_t weight = x.weight + t->weight[r];
+            stack[top++] = (place){weight, y, r, (uint16_t)count};
+            if (!asked || y < a || weight < w.sum_low || weight > w.sum_high) continue;
+            most = count, least = count + 1, asked = 0;
+        }
+    }
+    return most;
+}
+
+/* A walk that gives counts too, and no nodes that others were reached from: no path is gone back along. */
+static void walk_counting(const net *t, uint16_t from, paths *p, uint16_t count[MOST]) {
+    uint16_t stack[MOST];
+    size_t top = 0;
+    stack[top++] = from;
+    p->length[from] = p->weight[from] = count[from] = 0;
+    p->last[from] = 65535;
+    while (top) {
+        uint16_t x = stack[--top], back = p->last[x];
+        int64_t length = p->length[x], weight = p->weight[x];
+        for (uint32_t h = t->first[x]; h < t->first[x + 1]; h++) {
+            uint16_t r = t->row[h], y = t->to[h];
+            if (r == back) continue;
+            p->length[y] = length + t->length[r];
+            p->weight[y] = weight + t->weight[r];
+            p->last[y] = r, count[y] = (uint16_t)(count[x] + 1);
+            stack[top++] = y;
+        }
+    }
+}
+
+uint8_t scan_window(const uint8_t *table, size_t table_len, const uint16_t *marks, size_t marks_len,
+                    uint32_t count_low, uint32_t count_high, int64_t sum_low, int64_t sum_high, int64_t answer[8]) {
+    net t;
+    paths p;
+    uint16_t count[MOST];
+    window w = {count_low, count_high, sum_low, sum_high};
+    uint8_t number = begin(table, table_len, marks, marks_len, &t, answer);
+    if (number) return number;
+    if (no_window(w)) return refuse(answer, 30, 0);
+    size_t low = 0;
+    uint32_t most = 0;
+    for (size_t a = 0; a < t.n; a++) {
+        uint32_t more = most_from(&t, (uint16_t)a, w, most + 1);
+        if (more) most = more, low = a;
+    }
+    if (most == 0) return refuse(answer, 31, 0);
+    walk_counting(&t, (uint16_t)low, &p, count);
+    size_t high = low + 1; /* the first of that count in the window */
+    while (count[high] != most || p.weight[high] < sum_low || p.weight[high] > sum_high) high++;
+    refuse(answer, 0, 0);
+    answer[3] = (int64_t)low, answer[4] = (int64_t)high, answer[5] = most, answer[6] = p.weight[high];
+    return 0;
+}
+
+uint8_t scan_window_list(const uint8_t *table, size_t table_len, const uint16_t *marks, size_t marks_len,
+                         uint32_t count_low, uint32_t count_high, int64_t sum_low, int64_t sum_high,
+                         uint16_t from_low, uint16_t from_high, uint8_t *rows, size_t rows_len, int64_t answer[8]) {
+    net t;
+    paths p;
+    uint16_t count[MOST];
+    uint32_t most_of[MOST], most = 1; /* of each lower node's pairs, 0 where an earlier node's have more; of all */
+    window w = {count_low, count_high, sum_low, sum_high};
+    uint8_t number = begin(table, table_len, marks, marks_len, &t, answer);
+    if (number) return number;
+    if (no_window(w)) return refuse(answer, 30, 0);
+    if (rows_len < 16) return refuse(answer, 17, 0);
+    for (size_t a = 0; a < t.n; a++) {
+        most_of[a] = most_from(&t, (uint16_t)a, w, most);
+        if (most_of[a]) most = most_of[a];
+    }
+    size_t room = rows_len / 16, written = 0, left = 0;
+    for (size_t a = from_low; a < t.n; a++) {
+        if (most_of[a] != most) continue;
+        walk_counting(&t, (uint16_t)a, &p, count);
+        for (size_t b = a + 1; b < t.n; b++) {
+            if (count[b] != most || p.weight[b] < sum_low || p.weight[b] > sum_high) continue;
+            if (a == from_low && b <= from_high) continue;
+            if (written == room) left++;
+            else put_row(rows + 16 * written++, a, b, &p);
+        }
+    }
+    refuse(answer, 0, 0);
+    answer[3] = (int64_t)written, answer[4] = (int64_t)left;
+    return 0;
 }
 
 uint8_t scan_claim(const uint8_t *table, size_t table_len, uint16_t *marks, size_t marks_len,

@@ -8,10 +8,11 @@
 #include <stdlib.h>
 #include <string.h>
 
-enum { STACK = 2 << 20, NODES = 4096, TEXT = 1 << 18, OPS = 14, PAINT = 0xA5 };
+enum { STACK = 2 << 20, NODES = 4096, TEXT = 1 << 18, OPS = 16, PAINT = 0xA5 };
 static const char *names[OPS] = {"(the thread itself)", "hb_accept", "hb_pair", "hb_heaviest", "hb_heaviest_exact",
-                                 "hb_heads", "hb_listing", "hb_listing_exact", "hb_claim", "hb_commit", "hb_abort",
-                                 "hb_convert", "hb_dimacs_read", "hb_dimacs_write"};
+                                 "hb_heads", "hb_listing", "hb_listing_exact", "hb_window", "hb_window_list",
+                                 "hb_claim", "hb_commit", "hb_abort", "hb_convert", "hb_dimacs_read",
+                                 "hb_dimacs_write"};
 static uint8_t table[12 * NODES], made[12 * NODES], page[65536], lengths[TEXT], weights[TEXT], text[TEXT], other[TEXT];
 static uint16_t marks[NODES], heads[NODES];
 static size_t size, lengths_len, weights_len;
@@ -27,12 +28,16 @@ static void *call(void *which) {
     case 5: hb_heads(table, size, heads, NODES, answer); break;
     case 6: hb_listing(table, size, marks, m, 0, 0, 0, page, sizeof page, answer); break;
     case 7: hb_listing_exact(table, size, marks, m, 0, 0, 0, page, sizeof page, answer); break;
-    case 8: hb_claim(table, size, marks, m, 7, 1, 2, answer); break;
-    case 9: hb_commit(table, size, marks, m, 7, answer); break;
-    case 10: hb_abort(table, size, marks, m, 7, answer); break;
-    case 11: hb_convert(table, size, marks, m, answer); break;
-    case 12: hb_dimacs_read(lengths, lengths_len, weights, weights_len, 0, made, sizeof made, answer); break;
-    case 13: hb_dimacs_write(table, size, text, TEXT, other, TEXT, answer); break;
+    case 8: hb_window(table, size, marks, m, 1, NODES, INT64_MIN, INT64_MAX, answer); break;
+    case 9:
+        hb_window_list(table, size, marks, m, 1, NODES, INT64_MIN, INT64_MAX, 0, 0, page, sizeof page, answer);
+        break;
+    case 10: hb_claim(table, size, marks, m, 7, 1, 2, answer); break;
+    case 11: hb_commit(table, size, marks, m, 7, answer); break;
+    case 12: hb_abort(table, size, marks, m, 7, answer); break;
+    case 13: hb_convert(table, size, marks, m, answer); break;
+    case 14: hb_dimacs_read(lengths, lengths_len, weights, weights_len, 0, made, sizeof made, answer); break;
+    case 15: hb_dimacs_write(table, size, text, TEXT, other, TEXT, answer); break;
     }
     return NULL;
 }

@@ -41,6 +41,9 @@
              with c is a comment; one line `p sp NODES ARCS` stands before all lines `a FROM TO NUMBER`. Nodes count
              from 1. Numbers have no leading zero, and a minus, in the weight text alone, only before a nonzero digit.
              Each branch is two opposite arcs with equal number, in any order
+   window    two limits of a branch count, 32 bits unsigned, and two sums of a weight, 64 bits signed: any numbers, and
+             nothing wraps. A pair is in the window if its path has count_low to count_high branches and weighs, under
+             the marks, sum_low to sum_high, all four ends taken in. Its length and the bound play no part
 
    Refusal numbers, each given exactly when its condition holds and none before it in the operation's order does:
         1  under 12 bytes                         11  ring: the row whose ends earlier rows already join
@@ -64,6 +67,8 @@
        27  an arc given twice, from a node to itself or without its equal opposite
        28  the two texts name different branches
        29  no room for the output
+       30  the lower count limit is 0, or above the upper one, or the lower sum above the upper one
+       31  no pair in the window
    Every function but hb_dimacs_read begins with 1 to 12; for rows of version 2, 22 and then 23 stand where 10 does. */
 #ifndef HOURBENCH_H
 #define HOURBENCH_H
@@ -72,10 +77,10 @@
 #include <stdint.h>
 
 /* The library's version; CHANGES.md says how it moves. */
-#define HB_VERSION "1.6.1"
+#define HB_VERSION "1.7.0"
 #define HB_VERSION_MAJOR 1
-#define HB_VERSION_MINOR 6
-#define HB_VERSION_PATCH 1
+#define HB_VERSION_MINOR 7
+#define HB_VERSION_PATCH 0
 
 /* Of a mark: HB_RUN, the run by which its branch is held or spent, 0 where free; HB_SPENT, whether it is spent. */
 #define HB_RUN(mark) ((mark) & 0x7fffu)
@@ -115,6 +120,19 @@ uint8_t hb_listing(const uint8_t *table, size_t table_len, const uint16_t *marks
 /* The same for the pairs of exactly the bound's length. */
 uint8_t hb_listing_exact(const uint8_t *table, size_t table_len, const uint16_t *marks, size_t marks_len, int64_t floor,
                          uint16_t from_low, uint16_t from_high, uint8_t *rows, size_t rows_len, int64_t *answer);
+
+/* The pair in the window with the most branches; of equal count the earlier pair. Fields: low, high, count, weight.
+   Then 13, 30, 31. */
+uint8_t hb_window(const uint8_t *table, size_t table_len, const uint16_t *marks, size_t marks_len,
+                  uint32_t count_low, uint32_t count_high, int64_t sum_low, int64_t sum_high, int64_t *answer);
+
+/* The pairs in the window with as many branches as hb_window's, strictly after (from_low, from_high), in pair order and
+   in the listing's rows and pages: a row's length is the wire length. The greatest count is that of all pairs in the
+   window, whatever the start, so that every page of a list has the same. Where no pair is in the window the list is
+   empty, which is no refusal. Fields: written, left. Then 13, 30, 17. */
+uint8_t hb_window_list(const uint8_t *table, size_t table_len, const uint16_t *marks, size_t marks_len,
+                       uint32_t count_low, uint32_t count_high, int64_t sum_low, int64_t sum_high,
+                       uint16_t from_low, uint16_t from_high, uint8_t *rows, size_t rows_len, int64_t *answer);
 
 /* Each free branch of the path between a and b becomes held by the run. Fields: claimed. Then 13, 14, 15, 18, 19. */
 uint8_t hb_claim(const uint8_t *table, size_t table_len, uint16_t *marks, size_t marks_len,

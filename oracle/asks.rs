@@ -1,5 +1,5 @@
 //! An ask: an operation and its numbers; what it answers; its line (README.md has the form of both).
-use crate::net::{self, Lengths, Mark, Refused};
+use crate::net::{self, Lengths, Mark, Refused, Window};
 
 /// What every lent byte and every lent head holds before a call.
 pub const LENT: u8 = 165;
@@ -18,8 +18,10 @@ pub enum Op {
     HeaviestExact,
     Convert,
     Reading,
+    Window,
     Listing,
     ListingExact,
+    WindowList,
     Heads,
     Claim,
     Commit,
@@ -29,7 +31,7 @@ pub enum Op {
 }
 
 /// Each operation's code in an ask.
-pub const CODES: [(Op, u16); 19] = [
+pub const CODES: [(Op, u16); 21] = [
     (Op::Open, 1),
     (Op::Examine, 2),
     (Op::RowPart, 3),
@@ -42,8 +44,10 @@ pub const CODES: [(Op, u16); 19] = [
     (Op::HeaviestExact, 20),
     (Op::Convert, 21),
     (Op::Reading, 22),
+    (Op::Window, 23),
     (Op::Listing, 33),
     (Op::ListingExact, 34),
+    (Op::WindowList, 35),
     (Op::Heads, 49),
     (Op::Claim, 65),
     (Op::Commit, 66),
@@ -52,7 +56,8 @@ pub const CODES: [(Op, u16); 19] = [
 ];
 
 /// The text is what its line begins with. `lent` is how many bytes or heads are lent, `shown` how many elements of the
-/// lent memory the line shows; a and b are two nodes or a starting pair, x a row number, a floor's 64 bits or a bound.
+/// lent memory the line shows; a and b are two nodes or a starting pair, x a row number, a bound, or the 64 bits of a
+/// floor or of a window's lower sum; its upper sum, and its lower and upper count limit, stand by themselves.
 #[derive(Clone, PartialEq, Debug)]
 pub struct Ask {
     pub op: Op,
@@ -63,6 +68,8 @@ pub struct Ask {
     pub a: u16,
     pub b: u16,
     pub x: u64,
+    pub sum_high: i64,
+    pub counts: [u32; 2],
 }
 
 /// What an ask is answered: number, row and ring (0 where nothing is refused), the operation's fields (0 in a refusal),
@@ -85,7 +92,19 @@ pub fn of_mark(mark: Mark) -> Vec<i128> {
 
 impl Ask {
     pub fn new(op: Op, text: &str) -> Ask {
-        Ask { op, text: text.to_string(), lent: 0, shown: 0, run: 0, a: 0, b: 0, x: 0 }
+        let text = text.to_string();
+        Ask { op, text, lent: 0, shown: 0, run: 0, a: 0, b: 0, x: 0, sum_high: 0, counts: [0, 0] }
+    }
+
+    /// With the numbers of a window.
+    pub fn of_window(self, window: Window) -> Ask {
+        let [low, high] = window.sums;
+        Ask { x: low as u64, sum_high: high, counts: window.counts, ..self }
+    }
+
+    /// The window that it has the numbers of.
+    pub fn window(&self) -> Window {
+        Window { counts: self.counts, sums: [self.x as i64, self.sum_high] }
     }
 
     /// How many fields the operation's answer has.
@@ -93,9 +112,10 @@ impl Ask {
         match self.op {
             Op::RowPart | Op::FirstRow | Op::Convert | Op::Heads | Op::Bound => 0,
             Op::NextRow | Op::Claim | Op::Commit | Op::Abort => 1,
-            Op::Open | Op::Examine | Op::Accept | Op::Reading | Op::Listing | Op::ListingExact => 2,
+            Op::Open | Op::Examine | Op::Accept | Op::Reading => 2,
+            Op::Listing | Op::ListingExact | Op::WindowList => 2,
             Op::Pair => 3,
-            Op::Row | Op::Heaviest | Op::HeaviestExact => 4,
+            Op::Row | Op::Heaviest | Op::HeaviestExact | Op::Window => 4,
         }
     }
 
@@ -119,6 +139,7 @@ impl Ask {
         let mut heads = vec![LENT as u16; self.lent as usize];
         let wide = |bytes: &[u8]| Some(bytes.iter().map(|b| *b as u16).collect());
         let run = |(a, b, length, weight)| vec![a as i128, b as i128, length as i128, weight as i128];
+        let listed = |(written, left)| vec![written as i128, left as i128];
         let mut page = |lengths| net::listing(t, marks, lengths, self.x as i64, (self.a, self.b), &mut rows);
         let fields = match self.op {
             Op::Open => net::open(t).map(|(n, bound)| vec![n as i128, bound as i128]),
@@ -135,8 +156,11 @@ impl Ask {
             Op::HeaviestExact => net::heaviest_exact(t, marks).map(run),
             Op::Convert => net::convert(t, marks).map(|_| vec![]),
             Op::Reading => Ok(marks.get(self.x as usize).map_or(vec![0, 0], |mark| of_mark(net::reading(*mark)))),
-            Op::Listing => page(Lengths::AtMost).map(|(written, left)| vec![written as i128, left as i128]),
-            Op::ListingExact => page(Lengths::Exactly).map(|(written, left)| vec![written as i128, left as i128]),
+            Op::Window => net::window(t, marks, self.window())
+                .map(|(a, b, count, weight)| vec![a as i128, b as i128, count as i128, weight as i128]),
+            Op::Listing => page(Lengths::AtMost).map(listed),
+            Op::ListingExact => page(Lengths::Exactly).map(listed),
+            Op::WindowList => net::window_list(t, marks, self.window(), (self.a, self.b), &mut rows).map(listed),
             Op::Heads => net::heads(t, &mut heads).map(|_| vec![]),
             Op::Claim => net::claim(t, marks, self.run, self.a, self.b).map(|k| vec![k as i128]),
             Op::Commit => net::commit(t, marks, self.run).map(|k| vec![k as i128]),
@@ -149,7 +173,7 @@ impl Ask {
         let memory = match self.op {
             Op::RowPart => wide(net::part(t, self.x)),
             Op::FirstRow => wide(net::first(t)),
-            Op::Listing | Op::ListingExact => wide(&rows),
+            Op::Listing | Op::ListingExact | Op::WindowList => wide(&rows),
             Op::Heads => Some(heads),
             Op::Claim | Op::Commit | Op::Abort => Some(marks.to_vec()),
             _ => None,

@@ -1,6 +1,6 @@
 //! A case: a table, marks and asks; its bytes and its lines (README.md has both).
 use crate::asks::{Ask, Op, Said, CODES};
-use crate::form::{bytes, get_16, get_64, put_16, text};
+use crate::form::{bytes, get_16, get_32, get_64, put_16, put_32, text};
 use std::io::{Read, Result, Write};
 
 #[derive(Clone, PartialEq)]
@@ -28,6 +28,8 @@ pub fn write(out: &mut impl Write, cases: &[Case]) -> Result<()> {
             put_16(out, &[code as usize, q.text.len()])?;
             put_16(out, &[q.lent, q.shown, q.run, q.a, q.b].map(usize::from))?;
             out.write_all(&q.x.to_le_bytes())?;
+            out.write_all(&q.sum_high.to_le_bytes())?;
+            put_32(out, &q.counts)?;
             out.write_all(q.text.as_bytes())?;
         }
     }
@@ -37,8 +39,9 @@ pub fn write(out: &mut impl Write, cases: &[Case]) -> Result<()> {
 fn ask(input: &mut impl Read) -> Result<Ask> {
     let [code, size, lent, shown, run, a, b] = get_16(input)?;
     let op = CODES.iter().find(|(_, c)| *c == code).expect("an operation").0;
-    let x = get_64(input)?;
-    Ok(Ask { op, text: text(input, size)?, lent, shown, run, a, b, x })
+    let (x, sum_high) = (get_64(input)?, get_64(input)? as i64);
+    let counts = get_32(input)?;
+    Ok(Ask { op, text: text(input, size)?, lent, shown, run, a, b, x, sum_high, counts })
 }
 
 pub fn read(input: &mut impl Read) -> Result<Vec<Case>> {

@@ -1,5 +1,5 @@
 //! Random cases, some damaged.
-use crate::net::{self, Net};
+use crate::net::{self, Net, Window};
 use crate::plain::{all_pairs, table, Branch, Carried, Plain};
 use crate::random::Random;
 
@@ -172,6 +172,32 @@ fn relaxed(r: &mut Random, net: &Net, marks: &[u16], bound: u32, floor: i64) -> 
     ([once, again], lower)
 }
 
+/// A window. Half of the time it is made to take some pair: its limits stand about that pair's count and weight, just
+/// there, a little or far beside them, or at an edge. Else each is any such number, mostly the lower ones first.
+fn window(r: &mut Random, net: &Net, marks: &[u16]) -> Window {
+    let a = r.below(net.n);
+    let b = if net.n == 1 { a } else { (a + 1 + r.below(net.n - 1)) % net.n };
+    let f = net.from(a, marks);
+    let (count, weight) = (f.count[b].max(1) as u32, f.weight[b]);
+    let other = f.weight[r.below(net.n)];
+    let (last, wide) = (net.n as u32 - 1, 4_095_000_000);
+    let few = |r: &mut Random| r.pick(&[0, 1, 2, count - 1, count, count + 1, last, 4_095, 4_096, u32::MAX]);
+    let heavy = |r: &mut Random| {
+        let (near, edge) = (r.within(-2, 2), r.pick(&[i64::MIN, i64::MIN + 1, i64::MAX - 1, i64::MAX]));
+        r.pick(&[0, other, weight, weight + near, weight - 1_000_000, weight + 1_000_000, -wide, wide, edge, edge])
+    };
+    let mut counts = [few(r), few(r)];
+    let mut sums = [heavy(r), heavy(r)];
+    if r.one_in(2) {
+        counts = [counts[0].clamp(1, count), counts[1].max(count)];
+        sums = [sums[0].min(weight), sums[1].max(weight)];
+    } else if !r.one_in(4) {
+        counts.sort();
+        sums.sort();
+    }
+    Window { counts, sums }
+}
+
 /// One fault, of a table of this version.
 fn damage(r: &mut Random, t: &mut Vec<u8>, n: usize, version: u8) {
     let some_row = |r: &mut Random| if n < 2 { 0 } else { 12 + 12 * r.below(n - 1) };
@@ -222,7 +248,8 @@ fn random(r: &mut Random, limit: usize) -> Plain {
     };
     let version = if r.one_in(3) { 2 } else { 1 };
     let rows = branches(r, n, version);
-    // From numbers of their own, so that the tables stay the same whatever marks are made and whatever is relaxed.
+    // From numbers of their own, so that the tables stay the same whatever marks and windows are made and whatever is
+    // relaxed.
     let own = &mut Random(r.next());
     let run = run_number(own);
     let other = if own.one_in(3) { run } else { run_number(own) };
@@ -254,6 +281,7 @@ fn random(r: &mut Random, limit: usize) -> Plain {
         _ => weight,
     };
     let (raised, lower) = relaxed(own, &open, &marks, bound, floor);
+    let windows = [window(own, &open, &marks), window(own, &open, &marks)];
     let any = |r: &mut Random| match r.below(24) {
         0 => n as u16,
         1 => r.pick(&[4095, 4096, 65535]),
@@ -283,7 +311,8 @@ fn random(r: &mut Random, limit: usize) -> Plain {
             damage_again(r, &mut t);
         }
     }
-    Plain { table: t, marks, run, other, a, b, start, room, heads, floor, raised, lower, whole: all_pairs(n) }
+    let whole = all_pairs(n);
+    Plain { table: t, marks, run, other, a, b, start, room, heads, floor, windows, raised, lower, whole }
 }
 
 /// A second fault, so that the order of refusals shows.

@@ -28,10 +28,11 @@ pub struct Net {
     beside: Vec<Vec<(usize, usize)>>,
 }
 
-/// From one node to every node: the length and weight of the path, and the row and node it comes from last.
+/// From one node to every node: length, weight and branch count of the path, and the row and node it comes from last.
 pub struct From {
     pub length: Vec<u64>,
     pub weight: Vec<i64>,
+    pub count: Vec<usize>,
     pub last: Vec<Option<(usize, usize)>>,
 }
 
@@ -246,7 +247,8 @@ pub fn decoded(s: &[u8], row: u64) -> Row {
 impl Net {
     /// Walks from `a` to every node. A marked branch weighs the lesser of 0 and its own weight (document 02, Req 01).
     pub fn from(&self, a: usize, marks: &[u16]) -> From {
-        let mut f = From { length: vec![0; self.n], weight: vec![0; self.n], last: vec![None; self.n] };
+        let n = self.n;
+        let mut f = From { length: vec![0; n], weight: vec![0; n], count: vec![0; n], last: vec![None; n] };
         let mut to_do = vec![a];
         while let Some(x) = to_do.pop() {
             for &(r, y) in &self.beside[x] {
@@ -256,6 +258,7 @@ impl Net {
                 f.length[y] = f.length[x] + self.rows[r].length;
                 f.weight[y] = f.weight[x]
                     + if marks[r] == 0 { self.rows[r].weight } else { self.rows[r].weight.min(0) };
+                f.count[y] = f.count[x] + 1;
                 f.last[y] = Some((r, x));
                 to_do.push(y);
             }
@@ -400,6 +403,39 @@ pub enum Lengths {
     Exactly,
 }
 
+/// A page: the rows that fit into the lent bytes, and how many are left over.
+struct Page<'a> {
+    bytes: &'a mut [u8],
+    written: usize,
+    left: usize,
+}
+
+impl Page<'_> {
+    /// A page with nothing on it yet; 17.
+    fn lent(bytes: &mut [u8]) -> Result<Page<'_>, Refused> {
+        if bytes.len() < 16 { Err(refused(17, 0)) } else { Ok(Page { bytes, written: 0, left: 0 }) }
+    }
+
+    /// The list's next row: the path from `a`, where `f` starts, to `b`.
+    fn put(&mut self, a: usize, b: usize, f: &From) {
+        if 16 * (self.written + 1) > self.bytes.len() {
+            self.left += 1;
+            return;
+        }
+        let row = &mut self.bytes[16 * self.written..16 * self.written + 16];
+        row[0..2].copy_from_slice(&(a as u16).to_le_bytes());
+        row[2..4].copy_from_slice(&(b as u16).to_le_bytes());
+        row[4..8].copy_from_slice(&(f.length[b] as u32).to_le_bytes());
+        row[8..16].copy_from_slice(&f.weight[b].to_le_bytes());
+        self.written += 1;
+    }
+}
+
+/// Is a pair strictly after the starting pair, by first node, then second? That may be any two numbers.
+fn after(pair: (usize, usize), start: (u16, u16)) -> bool {
+    pair > (start.0 as usize, start.1 as usize)
+}
+
 /// The page after the starting pair into the lent bytes: rows written, rows left over.
 pub fn listing(
     s: &[u8],
@@ -411,34 +447,90 @@ pub fn listing(
 ) -> Result<(usize, usize), Refused> {
     let net = accept(s)?;
     net.marks_fit(marks)?;
-    if page.len() < 16 {
-        return Err(refused(17, 0));
-    }
-    let (mut written, mut left) = (0, 0);
+    let mut page = Page::lent(page)?;
     for a in 0..net.n {
         let f = net.from(a, marks);
         for b in a + 1..net.n {
-            let after = (a, b) > (start.0 as usize, start.1 as usize);
             let taken = match lengths {
                 Lengths::AtMost => f.length[b] <= net.bound,
                 Lengths::Exactly => f.length[b] == net.bound,
             };
-            if !after || !taken || f.weight[b] < floor {
-                continue;
+            if after((a, b), start) && taken && f.weight[b] >= floor {
+                page.put(a, b, &f);
             }
-            if 16 * (written + 1) > page.len() {
-                left += 1;
-                continue;
-            }
-            let row = &mut page[16 * written..16 * written + 16];
-            row[0..2].copy_from_slice(&(a as u16).to_le_bytes());
-            row[2..4].copy_from_slice(&(b as u16).to_le_bytes());
-            row[4..8].copy_from_slice(&(f.length[b] as u32).to_le_bytes());
-            row[8..16].copy_from_slice(&f.weight[b].to_le_bytes());
-            written += 1;
         }
     }
-    Ok((written, left))
+    Ok((page.written, page.left))
+}
+
+/// A window (document 02, Req 09): the lower and the upper limit of a run's branch count, the lower and the upper sum
+/// of its weight. Each of the four is within.
+#[derive(Clone, Copy, PartialEq, Debug)]
+pub struct Window {
+    pub counts: [u32; 2],
+    pub sums: [i64; 2],
+}
+
+impl Window {
+    /// 30.
+    fn fit(&self) -> Result<(), Refused> {
+        let ([fewest, most], [least, greatest]) = (self.counts, self.sums);
+        if fewest == 0 || fewest > most || least > greatest { Err(refused(30, 0)) } else { Ok(()) }
+    }
+
+    /// Is the path from where `f` starts to `b` in the window? Its length and B play no part.
+    fn takes(&self, f: &From, b: usize) -> bool {
+        let ([fewest, most], [least, greatest]) = (self.counts.map(i128::from), self.sums.map(i128::from));
+        (fewest..=most).contains(&(f.count[b] as i128)) && (least..=greatest).contains(&(f.weight[b] as i128))
+    }
+}
+
+/// The pair in the window with the most branches, the earlier among equals: lower node, higher node, count, weight.
+pub fn window(s: &[u8], marks: &[u16], window: Window) -> Result<(usize, usize, usize, i64), Refused> {
+    let net = accept(s)?;
+    net.marks_fit(marks)?;
+    window.fit()?;
+    let mut best: Option<(usize, usize, usize, i64)> = None;
+    for a in 0..net.n {
+        let f = net.from(a, marks);
+        for b in (a + 1..net.n).filter(|b| window.takes(&f, *b)) {
+            if best.map_or(true, |old| f.count[b] > old.2) {
+                best = Some((a, b, f.count[b], f.weight[b]));
+            }
+        }
+    }
+    best.ok_or(refused(31, 0))
+}
+
+/// Of all pairs in the window those with the greatest count that any of them has; of these the page after the starting
+/// pair into the lent bytes: rows written, rows left over.
+pub fn window_list(
+    s: &[u8],
+    marks: &[u16],
+    window: Window,
+    start: (u16, u16),
+    page: &mut [u8],
+) -> Result<(usize, usize), Refused> {
+    let net = accept(s)?;
+    net.marks_fit(marks)?;
+    window.fit()?;
+    let mut page = Page::lent(page)?;
+    let mut most = 0;
+    for a in 0..net.n {
+        let f = net.from(a, marks);
+        for b in (a + 1..net.n).filter(|b| window.takes(&f, *b)) {
+            most = most.max(f.count[b]);
+        }
+    }
+    for a in 0..net.n {
+        let f = net.from(a, marks);
+        for b in (a + 1..net.n).filter(|b| window.takes(&f, *b)) {
+            if f.count[b] == most && after((a, b), start) {
+                page.put(a, b, &f);
+            }
+        }
+    }
+    Ok((page.written, page.left))
 }
 
 /// Each free branch of the path becomes held by the run: how many.

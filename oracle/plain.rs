@@ -1,7 +1,7 @@
 //! A table with marks and one number of each sort, about which every operation is asked: what a random case is made of.
 use crate::asks::{Ask, Op};
 use crate::cases::Case;
-use crate::net;
+use crate::net::{self, Window};
 
 /// What a row carries beside its nodes and length: its weight (version 1), or a kind and a count (version 2).
 #[derive(Clone, Copy)]
@@ -31,6 +31,9 @@ pub struct Plain {
     /// Heads lent.
     pub heads: u16,
     pub floor: i64,
+    /// The first is asked for the most branches, before the claim and after it, and listed from the starting pair on;
+    /// of the second all pairs with the most branches are listed.
+    pub windows: [Window; 2],
     /// What is relaxed at the end (Req 08): the bound, twice, and the floor; bytes lent for the lists compared then.
     pub raised: [u32; 2],
     pub lower: i64,
@@ -68,7 +71,10 @@ pub fn all_pairs(n: usize) -> u16 {
     (8 * n * n.saturating_sub(1)).clamp(16, 65_535) as u16
 }
 
-/// With the numbers that the worked net is asked about.
+/// A window with every pair in it.
+const ALL: Window = Window { counts: [1, u32::MAX], sums: [i64::MIN, i64::MAX] };
+
+/// With the numbers that the worked net is asked about: in the first window 0-2 and 2-3 have the most branches there.
 pub fn plain(table: Vec<u8>, marks: &[u16]) -> Plain {
     let nodes = u16::from_le_bytes([table[5], table[6]]);
     let bound = net::bound_in(&table).unwrap_or(0);
@@ -83,6 +89,7 @@ pub fn plain(table: Vec<u8>, marks: &[u16]) -> Plain {
         room: 160,
         heads: nodes.min(4_200),
         floor: 7,
+        windows: [Window { counts: [1, 2], sums: [5, 9] }, ALL],
         raised: [bound.saturating_add(1), u32::MAX],
         lower: i64::MIN,
         whole: all_pairs(nodes as usize),
@@ -100,6 +107,10 @@ impl Plain {
             let (a, b) = self.start;
             Ask { a, b, lent: self.room, x: self.floor as u64, ..of(op, text) }
         };
+        let most = || of(Op::Window, "window").of_window(self.windows[0]);
+        let all_most = |(a, b), lent, window| {
+            Ask { a, b, lent, ..of(Op::WindowList, "window list") }.of_window(window)
+        };
         let bound = |b: u32| Ask { x: b as u64, ..of(Op::Bound, "bound") };
         let list = |floor: i64| Ask { lent: self.whole, x: floor as u64, ..of(Op::Listing, "listing") };
         vec![
@@ -111,8 +122,12 @@ impl Plain {
             Ask { lent: self.heads, ..of(Op::Heads, "heads") },
             page(Op::Listing, "listing"),
             page(Op::ListingExact, "listing exact"),
+            most(),
+            all_most(self.start, self.room, self.windows[0]),
+            all_most((0, 0), self.whole, self.windows[1]),
             Ask { run: self.run, ..pair(Op::Claim, "claim") },
             of(Op::Heaviest, "heaviest"),
+            most(),
             Ask { run: self.other, ..of(Op::Commit, "commit") },
             of(Op::Heaviest, "heaviest"),
             Ask { run: self.run, ..of(Op::Abort, "abort") },

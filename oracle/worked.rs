@@ -3,7 +3,7 @@
 //! with its line. README.md has the form.
 use crate::asks::{of_mark, Ask, Op, Said, LENT};
 use crate::cases::Case;
-use crate::net::Mark;
+use crate::net::{Mark, Window};
 use crate::plain::{plain, table, version, Branch, Carried};
 use std::collections::HashMap;
 use std::str::FromStr;
@@ -142,11 +142,27 @@ fn marks(words: &[&str]) -> Read<Vec<u16>> {
     })
 }
 
-fn floor(word: &str) -> Read<u64> {
+/// A floor, or a sum of a window.
+fn sum(word: &str) -> Read<i64> {
     match word {
-        "least" => Ok(i64::MIN as u64),
-        "greatest" => Ok(i64::MAX as u64),
-        _ => number::<i64>(word).map(|z| z as u64),
+        "least" => Ok(i64::MIN),
+        "greatest" => Ok(i64::MAX),
+        _ => number(word),
+    }
+}
+
+/// A window, `counts 1 to 4 sums least to 9`.
+fn window(counts: [&str; 2], sums: [&str; 2]) -> Read<Window> {
+    let ([fewest, most], [least, greatest]) = (counts, sums);
+    Ok(Window { counts: [number(fewest)?, number(most)?], sums: [sum(least)?, sum(greatest)?] })
+}
+
+/// The starting pair and the room of a page.
+fn paged(words: &[&str]) -> Read<(u16, u16, u16)> {
+    match words {
+        ["room", k] => Ok((0, 0, number(k)?)),
+        ["after", a, b, "room", k] => Ok((number(a)?, number(b)?, number(k)?)),
+        other => strange("where a page begins and its room", other),
     }
 }
 
@@ -154,12 +170,9 @@ fn floor(word: &str) -> Read<u64> {
 fn ask(text: &str) -> Read<Ask> {
     let of = |op| Ask { shown: SHOWN, ..Ask::new(op, &format!("{text}:")) };
     let page = |op, rest: &[&str]| {
-        let (x, start, lent) = match rest {
-            ["floor", x, "room", k] => (floor(x)?, ["0", "0"], number(k)?),
-            ["floor", x, "after", a, b, "room", k] => (floor(x)?, [*a, *b], number(k)?),
-            other => return strange("what a listing takes", other),
-        };
-        Ok(Ask { x, a: number(start[0])?, b: number(start[1])?, lent, ..of(op) })
+        let ["floor", x, rest @ ..] = rest else { return strange("what a listing takes", rest) };
+        let (a, b, lent) = paged(rest)?;
+        Ok(Ask { x: sum(x)? as u64, a, b, lent, ..of(op) })
     };
     Ok(match words(text)[..] {
         ["open"] => of(Op::Open),
@@ -176,6 +189,13 @@ fn ask(text: &str) -> Read<Ask> {
         ["mark", "of", "row", r] => Ask { x: number(r)?, ..of(Op::Reading) },
         ["listing", "exact", ref rest @ ..] => page(Op::ListingExact, rest)?,
         ["listing", ref rest @ ..] => page(Op::Listing, rest)?,
+        ["window", "counts", few, "to", many, "sums", low, "to", high] => {
+            of(Op::Window).of_window(window([few, many], [low, high])?)
+        }
+        ["window", "list", "counts", few, "to", many, "sums", low, "to", high, ref rest @ ..] => {
+            let (a, b, lent) = paged(rest)?;
+            Ask { a, b, lent, ..of(Op::WindowList) }.of_window(window([few, many], [low, high])?)
+        }
         ["heads", "of", k] => Ask { lent: number(k)?, ..of(Op::Heads) },
         ["run", r, "claims", a, b] => Ask { run: number(r)?, a: number(a)?, b: number(b)?, ..of(Op::Claim) },
         ["run", r, "commits"] => Ask { run: number(r)?, ..of(Op::Commit) },
@@ -233,7 +253,7 @@ pub fn refusal(words: &[&str]) -> Read<Option<[u64; 3]>> {
 fn said(ask: &Ask, text: &str, before: &[u16]) -> Read<Said> {
     let all = parts(text);
     let lent = || match ask.op {
-        Op::Listing | Op::ListingExact | Op::Heads => Some(vec![LENT as u16; ask.lent as usize]),
+        Op::Listing | Op::ListingExact | Op::WindowList | Op::Heads => Some(vec![LENT as u16; ask.lent as usize]),
         Op::Claim | Op::Commit | Op::Abort => Some(before.to_vec()),
         _ => None,
     };
@@ -257,10 +277,17 @@ fn said(ask: &Ask, text: &str, before: &[u16]) -> Read<Said> {
             }
             _ => strange("two nodes, length and weight", one),
         },
+        (Op::Window, [one]) => match one[..] {
+            [pair, "count", k, "weight", w] => {
+                let (a, b) = ends(pair)?;
+                fine(numbers(&[&a.to_string(), &b.to_string(), k, w]), None)
+            }
+            _ => strange("two nodes, count and weight", one),
+        },
         (Op::Convert, [one]) if one[..] == ["converted"] => fine(Ok(vec![]), None),
         (Op::Reading, [_]) if ask.x >= before.len() as u64 => Err("no such mark".to_string()),
         (Op::Reading, [one]) => fine(Ok(of_mark(reading(one)?)), None),
-        (Op::Listing | Op::ListingExact, [found @ .., left]) => {
+        (Op::Listing | Op::ListingExact | Op::WindowList, [found @ .., left]) => {
             let found: &[Vec<&str>] = if found == [["nothing"]] { &[] } else { found };
             let mut bytes = found.iter().map(|r| listed(r)).collect::<Read<Vec<_>>>()?.concat();
             bytes.resize(bytes.len().max(ask.lent as usize), LENT);
@@ -289,7 +316,10 @@ fn usual(text: &str, case: &Case) -> Read<Vec<Ask>> {
             ["run", r] => p.run = number(r)?,
             ["nodes", a, b] => (p.a, p.b) = (number(a)?, number(b)?),
             ["room", k] => p.room = number(k)?,
-            ["floor", x] => p.floor = floor(x)? as i64,
+            ["floor", x] => p.floor = sum(x)?,
+            ["window", "counts", few, "to", many, "sums", low, "to", high] => {
+                p.windows[0] = window([few, many], [low, high])?
+            }
             ref other => return strange("what the usual asks take", other),
         }
     }

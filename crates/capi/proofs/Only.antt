@@ -11,11 +11,14 @@ use Rattle.convert.proofs.Only.{convert-only}
 use Rattle.pair.proofs.Only.{pair-only}
 use Rattle.heaviest.proofs.Only.{heaviest-only, heaviest-exact-only}
 use Rattle.listing.proofs.Only.{listing-only, listing-exact-only}
+use Rattle.window.specs.Window.{Window}
+use Rattle.window.proofs.Only.{window-only, window-list-only}
 use Rattle.dimacs.proofs.Only.{read-only, write-only}
 use Rattle.eight.specs.Shown.{
   acceptanceInC,
   pairInC,
   heaviestInC,
+  windowInC,
   headsInC,
   listingInC,
   changeInC,
@@ -32,6 +35,8 @@ use Rattle.capi.specs.Promises.{
   HeadsCall,
   ListingCall,
   ListingExactCall,
+  WindowCall,
+  WindowListCall,
   ClaimCall,
   CommitCall,
   AbortCall,
@@ -65,6 +70,13 @@ hb-listing-only s marks floor low high old = shows-only listingInC (listing-only
 pub hb-listing-exact-only : (s marks : List ℕ) (floor : ℤ) (low high : ℕ) (old : List ℕ)
     → Only (ListingExactCall s marks floor low high old)
 hb-listing-exact-only s marks floor low high old = shows-only listingInC (listing-exact-only s marks floor low high old)
+
+pub hb-window-only : (s marks : List ℕ) (w : Window) → Only (WindowCall s marks w)
+hb-window-only s marks w = shows-only windowInC (window-only s marks w)
+
+pub hb-window-list-only : (s marks : List ℕ) (w : Window) (low high : ℕ) (old : List ℕ)
+    → Only (WindowListCall s marks w low high old)
+hb-window-list-only s marks w low high old = shows-only listingInC (window-list-only s marks w low high old)
 
 pub hb-claim-only : (s before : List ℕ) (run a b : ℕ) → Only (ClaimCall s before run a b)
 hb-claim-only s before run a b = shows-only changeInC (claim-only s before run a b)

@@ -8,7 +8,7 @@ use lib.IntN.{ℤ}
 use lib.ListN.{length}
 use Rattle.table.specs.Header.{nodesOf}
 use Rattle.table.specs.Refuse.{Unless}
-use Rattle.tree.specs.Accept.{Accepts, acceptanceRefusal}
+use Rattle.tree.specs.Accept.{Begins, Accepts, acceptanceRefusal}
 use Rattle.tree.specs.declared.Acceptance.{Acceptance}
 use Rattle.table.proofs.Refusals.{by-unless, by-rows}
 use Rattle.tree.proofs.Begins.{Told, begins-map, by-beginning}
@@ -28,10 +28,16 @@ use Rattle.pair.specs.declared.PairAnswer.the-variants as pair
 use Rattle.heaviest.specs.Heaviest.{GivesHeaviest, HeaviestWithin, heaviestRefusal}
 use Rattle.heaviest.specs.declared.HeaviestAnswer.{HeaviestAnswer}
 use Rattle.heaviest.specs.declared.HeaviestAnswer.the-variants as heaviest
-use Rattle.listing.specs.Listing.{GivesPage, ListingWithin, listingRefusal}
-use Rattle.listing.specs.declared.Listed.{Listed}
-use Rattle.listing.specs.declared.Listed.the-variants as listing
-use Rattle.listing.proofs.Few.{listing-few}
+use Rattle.pages.specs.Passes.{Passes}
+use Rattle.paging.specs.Paging.{listingRefusal, GivesPage}
+use Rattle.paging.specs.declared.Listed.{Listed}
+use Rattle.paging.specs.declared.Listed.the-variants as listed
+use Rattle.paging.proofs.Few.{paged-few}
+use Rattle.listing.specs.Listing.{ListingWithin}
+use Rattle.window.specs.Window.{Window, GivesMost, WindowOf, windowRefusal}
+use Rattle.window.specs.List.{WindowListOf}
+use Rattle.window.specs.declared.WindowAnswer.{WindowAnswer}
+use Rattle.window.specs.declared.WindowAnswer.the-variants as window
 use Rattle.dimacs.specs.Read.{ReadOf}
 use Rattle.dimacs.specs.declared.ReadAnswer.{ReadAnswer}
 use Rattle.dimacs.specs.Write.{Wrote, WriteOf}
@@ -41,6 +47,7 @@ use Rattle.eight.specs.work.Room.{
   AcceptanceRoom,
   PairRoom,
   HeaviestRoom,
+  WindowRoom,
   HeadsRoom,
   PageRoom,
   ChangeRoom,
@@ -60,6 +67,17 @@ told k r g t = record { low = t .low; few = omega (arith, t .low, t .few) }
 own : {A : Type 0} (C : A → Type 0) {no : A} {Ok : Type 0} {rest : A → Type 0} → C no → ((x : A) → rest x → C x)
     → (x : A) → Unless A no Ok rest x → C x
 own C n f x p = by-unless C n (λ _. f) p
+
+-- what comes after 1 to 12 knows that an accepted net has 4,096 nodes at the most
+few-nodes : {A : Type 0} (C : A → Type 0) (refuse : ℕ → ℕ → ℕ → A) (s : List ℕ) {rest : A → Type 0} {x : A}
+    → ((k r g : ℕ) → Told k r g → C (refuse k r g)) → (nodesOf s ≤ 4096 → (y : A) → rest y → C y)
+    → Begins A refuse s rest x → C x
+few-nodes {A} C refuse s {rest} h f p =
+    by-beginning C refuse s {rest = known} h (λ y q. f (q .0) y (q .1))
+    (begins-map (λ o. o) refuse s {rest′ = known} (λ N q. (N .few, q)) p)
+  where
+    known : A → Type 0
+    known o = (nodesOf s ≤ 4096) × rest o
 
 pub accept-low : (s : List ℕ) (x : Acceptance) → Accepts s x → AcceptanceRoom x
 accept-low s x p = by-beginning AcceptanceRoom acceptanceRefusal s told (λ o e. rw e tt) p
@@ -82,6 +100,15 @@ heaviest-low none Within s marks x p =
     found P (heaviest.Between a b l w) q = tt
     found P (heaviest.Refused why) q = absurd q
 
+pub window-low : (s marks : List ℕ) (w : Window) (x : WindowAnswer) → WindowOf s marks w x → WindowRoom x
+window-low s marks w x p =
+    by-beginning WindowRoom windowRefusal s told
+    (own WindowRoom nowhere (own WindowRoom nowhere (own WindowRoom nowhere (found _)))) p
+  where
+    found : (P : _) (x : WindowAnswer) → GivesMost P x → WindowRoom x
+    found P (window.Most a b c y) q = tt
+    found P (window.Refused why) q = absurd q
+
 pub heads-low : (s before : List ℕ) (x : HeadsAnswer × List ℕ) → Headings s before x → HeadsRoom (x .0)
 heads-low s before x p =
     let C : HeadsAnswer × List ℕ → Type 0 = λ o. HeadsRoom (o .0) in
@@ -91,25 +118,27 @@ heads-low s before x p =
     written n (heads.Written, list) q = tt
     written n (heads.Refused why, list) q = absurd q
 
--- of a listing the counts fit too
+-- of a page the counts fit too, for its net has 4,096 nodes at the most
+page-low : (Value : ℕ → ℕ → ℕ → ℤ → Type 0) (Within : ℕ → Type 0) (Heavy : ℤ → Type 0) {n : ℕ} (low high : ℕ)
+    (old : List ℕ) → n ≤ 4096 → (x : Listed × List ℕ) → GivesPage (Passes Value Within Heavy n) low high old x
+    → PageRoom (x .0)
+page-low Value Within Heavy low high old few (listed.Rows written left, now) q = omega (arith, paged-few few q)
+page-low Value Within Heavy low high old few (listed.Refused why, now) q = absurd q
+
 pub listing-low :
     (Within : ℕ → Type 0) (s marks : List ℕ) (floor : ℤ) (low high : ℕ) (old : List ℕ) (x : Listed × List ℕ)
     → ListingWithin Within s marks floor low high old x → PageRoom (x .0)
-listing-low Within s marks floor low high old x p = counted x p (by-beginning C (listingRefusal old) s told
-    (own C nowhere (own C nowhere (given _))) p)
-  where
-    -- a refusal's room alone
-    C : Listed × List ℕ → Type 0
-    C (listing.Rows written left, now) = Unit {0}
-    C (listing.Refused why, now) = Room (why .row) (why .ring)
+listing-low Within s marks floor low high old x p =
+    let C : Listed × List ℕ → Type 0 = λ o. PageRoom (o .0) in
+    few-nodes C (listingRefusal old) s told
+    (λ few. own C nowhere (own C nowhere (page-low _ _ _ low high old few))) p
 
-    given : (P : _) (x : Listed × List ℕ) → GivesPage P low high old x → C x
-    given P (listing.Rows written left, now) q = tt
-    given P (listing.Refused why, now) q = absurd q
-
-    counted : (x : Listed × List ℕ) → ListingWithin Within s marks floor low high old x → C x → PageRoom (x .0)
-    counted (listing.Rows written left, now) p r = omega (arith, listing-few Within s marks floor low high old p)
-    counted (listing.Refused why, now) p r = r
+pub window-list-low : (s marks : List ℕ) (w : Window) (low high : ℕ) (old : List ℕ) (x : Listed × List ℕ)
+    → WindowListOf s marks w low high old x → PageRoom (x .0)
+window-list-low s marks w low high old x p =
+    let C : Listed × List ℕ → Type 0 = λ o. PageRoom (o .0) in
+    few-nodes C (listingRefusal old) s told
+    (λ few. own C nowhere (own C nowhere (own C nowhere (page-low _ _ _ low high old few)))) p
 
 -- commit and abort
 changed : (P : ℕ → Type 0) (m : ℕ) (before : List ℕ) (x : Change × List ℕ) → Done P m before x → ChangeRoom (x .0)
@@ -131,10 +160,7 @@ claim-low s before run a b x p =
 
 -- 24 names a row that has a mark, of which an accepted net has fewer than 4,096
 pub convert-low : (s marks : List ℕ) (x : Conversion) → Converts s marks x → ConversionRoom x
-convert-low s marks x p =
-    by-beginning ConversionRoom conversionRefusal s told (λ y q. after (q .0) y (q .1))
-    (begins-map (λ o. o) conversionRefusal s
-    {rest′ = λ o. (nodesOf s ≤ 4096) × Converting (nodesOf s) marks o} (λ N q. (N .few, q)) p)
+convert-low s marks x p = few-nodes ConversionRoom conversionRefusal s told after p
   where
     given : (x : Conversion) → GivesMarks marks x → ConversionRoom x
     given conversion.Converted q = tt

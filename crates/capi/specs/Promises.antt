@@ -11,6 +11,8 @@ use Rattle.convert.specs.Convert.{Converts}
 use Rattle.pair.specs.Pair.{PairOf}
 use Rattle.heaviest.specs.Heaviest.{HeaviestOf, HeaviestExactOf}
 use Rattle.listing.specs.Listing.{ListingOf, ListingExactOf}
+use Rattle.window.specs.Window.{Window, WindowOf}
+use Rattle.window.specs.List.{WindowListOf}
 use Rattle.dimacs.specs.Read.{ReadOf}
 use Rattle.dimacs.specs.Write.{WriteOf}
 use Rattle.eight.specs.Call.{Call}
@@ -18,6 +20,7 @@ use Rattle.eight.specs.Shown.{
   acceptanceInC,
   pairInC,
   heaviestInC,
+  windowInC,
   headsInC,
   listingInC,
   changeInC,
@@ -53,6 +56,12 @@ ListingCall s marks floor low high old = ShowsInC (ListingOf s marks floor low h
 
 abbrev pub ListingExactCall : List ℕ → List ℕ → ℤ → ℕ → ℕ → List ℕ → Call → Type 0
 ListingExactCall s marks floor low high old = ShowsInC (ListingExactOf s marks floor low high old) listingInC
+
+abbrev pub WindowCall : List ℕ → List ℕ → Window → Call → Type 0
+WindowCall s marks w = ShowsInC (WindowOf s marks w) windowInC
+
+abbrev pub WindowListCall : List ℕ → List ℕ → Window → ℕ → ℕ → List ℕ → Call → Type 0
+WindowListCall s marks w low high old = ShowsInC (WindowListOf s marks w low high old) listingInC
 
 abbrev pub ClaimCall : List ℕ → List ℕ → ℕ → ℕ → ℕ → Call → Type 0
 ClaimCall s before run a b = ShowsInC (Claims s before run a b) changeInC

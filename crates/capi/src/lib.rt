@@ -2,6 +2,7 @@
 // [i64; 8]` a pointer. Each function calls the operation and shows its answer, by the crate eight: it returns the
 // refusal number (0: none) and writes all 8 of `answer`: number, row, ring, the operation's fields in order, zeros.
 ghost use mathlib.Core.List.{[]};
+ghost use Rattle.window.specs.Window.{window};
 ghost use Rattle.eight.specs.Call.{call};
 ghost use Rattle.capi.specs.Promises.{
   AcceptCall,
@@ -11,6 +12,8 @@ ghost use Rattle.capi.specs.Promises.{
   HeadsCall,
   ListingCall,
   ListingExactCall,
+  WindowCall,
+  WindowListCall,
   ClaimCall,
   CommitCall,
   AbortCall,
@@ -26,6 +29,7 @@ use eight::show_heaviest;
 use eight::show_page;
 use eight::show_pair;
 use eight::show_read;
+use eight::show_window;
 use eight::show_write;
 
 // Fields: nodes, bound.
@@ -107,6 +111,45 @@ pub extern "C" fn hb_listing_exact(
         (call r (now (answer .exit)) (now (rows .exit))) ⌝ }
 {
     let o = listing::listing_exact(s, marks, floor, low, high, rows);
+    show_page(o, answer)
+}
+
+// Fields: low, high, count, weight.
+#[no_mangle]
+pub extern "C" fn hb_window(
+    s: &[u8],
+    marks: &[u16],
+    fewest: u32,
+    most: u32,
+    floor: i64,
+    ceiling: i64,
+    answer: &mut [i64; 8],
+) -> u8
+    ensures { λ r. ⌜ WindowCall (now (s .entry)) (now (marks .entry)) (window fewest most floor ceiling)
+        (call r (now (answer .exit)) []) ⌝ }
+{
+    let o = window::window(s, marks, fewest, most, floor, ceiling);
+    show_window(o, answer)
+}
+
+// Fields: written, left; the rows into `rows`.
+#[no_mangle]
+pub extern "C" fn hb_window_list(
+    s: &[u8],
+    marks: &[u16],
+    fewest: u32,
+    most: u32,
+    floor: i64,
+    ceiling: i64,
+    low: u16,
+    high: u16,
+    rows: &mut [u8],
+    answer: &mut [i64; 8],
+) -> u8
+    ensures { λ r. ⌜ WindowListCall (now (s .entry)) (now (marks .entry)) (window fewest most floor ceiling) low high
+        (now (rows .entry)) (call r (now (answer .exit)) (now (rows .exit))) ⌝ }
+{
+    let o = window::window_list(s, marks, fewest, most, floor, ceiling, low, high, rows);
     show_page(o, answer)
 }
 

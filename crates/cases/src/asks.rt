@@ -7,13 +7,14 @@ use crate::say::Answer;
 use changes::Change;
 use convert::Conversion;
 use heaviest::HeaviestAnswer;
-use listing::Listed;
 use numbers::put_bytes;
+use paging::Listed;
 use pair::PairAnswer;
 use spines::HeadsAnswer;
 use table::Opening;
 use table::Row;
 use tree::Acceptance;
+use window::WindowAnswer;
 
 fn opened(o: Opening) -> Answer {
     match o {
@@ -99,6 +100,25 @@ fn between(o: HeaviestAnswer) -> Answer {
     }
 }
 
+fn most(o: WindowAnswer) -> Answer {
+    match o {
+        WindowAnswer::Refused(why) => say::refused(why, 4),
+        WindowAnswer::Most {
+            low,
+            high,
+            count,
+            weight,
+        } => Answer {
+            number: 0,
+            row: 0,
+            ring: 0,
+            fields: [low as u64, high as u64, count as u64, pages::raised(weight)],
+            many: 4,
+            weight: 3,
+        },
+    }
+}
+
 fn converted(o: Conversion) -> Answer {
     match o {
         Conversion::Refused(why) => say::refused(why, 0),
@@ -164,6 +184,13 @@ fn of_table(s: &[u8], q: Ask) {
     }
 }
 
+// The lower sum of a window is where the floor of a listing is.
+fn in_window(s: &[u8], marks: &[u16], q: Ask) -> Answer {
+    let sum_low = signed(q.x);
+    let sum_high = signed(q.sum_high);
+    most(window::window(s, marks, q.count_low, q.count_high, sum_low, sum_high))
+}
+
 // Those that lend nothing and change nothing.
 fn of_net(s: &[u8], marks: &[u16], q: Ask) -> Answer {
     let code = q.code;
@@ -173,8 +200,25 @@ fn of_net(s: &[u8], marks: &[u16], q: Ask) -> Answer {
         19 => between(heaviest::heaviest(s, marks)),
         20 => between(heaviest::heaviest_exact(s, marks)),
         21 => converted(convert::convert(s, marks)),
-        _ => mark_of(marks, q.x as usize),
+        22 => mark_of(marks, q.x as usize),
+        _ => in_window(s, marks, q),
     }
+}
+
+fn all_in_window(s: &[u8], marks: &[u16], q: Ask, rows: &mut [u8]) -> Answer {
+    let sum_low = signed(q.x);
+    let sum_high = signed(q.sum_high);
+    listed(window::window_list(
+        s,
+        marks,
+        q.count_low,
+        q.count_high,
+        sum_low,
+        sum_high,
+        q.a,
+        q.b,
+        rows,
+    ))
 }
 
 fn page(s: &[u8], marks: &[u16], q: Ask, rows: &mut [u8]) -> Answer {
@@ -182,7 +226,8 @@ fn page(s: &[u8], marks: &[u16], q: Ask, rows: &mut [u8]) -> Answer {
     let floor = signed(q.x);
     match code {
         33 => listed(listing::listing(s, marks, floor, q.a, q.b, rows)),
-        _ => listed(listing::listing_exact(s, marks, floor, q.a, q.b, rows)),
+        34 => listed(listing::listing_exact(s, marks, floor, q.a, q.b, rows)),
+        _ => all_in_window(s, marks, q, rows),
     }
 }
 

@@ -5,7 +5,7 @@ use libc::STDIN_FILENO;
 use libc::STDOUT_FILENO;
 
 // An ask: its operation, how many bytes its text has, how much memory is lent and how much of that is written out after
-// the call, and the operation's numbers.
+// the call, and the operation's numbers: those of a window stand at the end, but for its lower sum, which is x.
 pub(crate) struct Ask {
     pub(crate) code: u16,
     pub(crate) text: u16,
@@ -15,6 +15,9 @@ pub(crate) struct Ask {
     pub(crate) a: u16,
     pub(crate) b: u16,
     pub(crate) x: u64,
+    pub(crate) sum_high: u64,
+    pub(crate) count_low: u32,
+    pub(crate) count_high: u32,
 }
 
 fn wide(x: u8) -> u16
@@ -28,6 +31,13 @@ pub(crate) fn number() -> u16 {
     let mut h = [0u8; 2];
     io::read_full(STDIN_FILENO, &mut h);
     wide(h[0]) + 256 * wide(h[1])
+}
+
+// The next number of 32 bits, the lower bytes first.
+fn middle() -> u32 {
+    let a = number() as u32;
+    let b = number() as u32;
+    a + 65536 * b
 }
 
 // The next number of 64 bits, the lower bytes first.
@@ -48,6 +58,9 @@ pub(crate) fn next_ask() -> Ask {
     let a = number();
     let b = number();
     let x = long();
+    let sum_high = long();
+    let count_low = middle();
+    let count_high = middle();
     Ask {
         code,
         text,
@@ -57,6 +70,9 @@ pub(crate) fn next_ask() -> Ask {
         a,
         b,
         x,
+        sum_high,
+        count_low,
+        count_high,
     }
 }
 

@@ -3,8 +3,8 @@
 use Prim.Native.Nat.{ℕ, _<_}
 use mathlib.Core.Path.{_≡_}
 use native.Mathlib.Omega.{arith}
-use Rattle.listing.specs.declared.Listed.{Listed}
-use Rattle.listing.specs.declared.Listed.the-variants.{Rows}
+use Rattle.paging.specs.declared.Listed.{Listed}
+use Rattle.paging.specs.declared.Listed.the-variants.{Rows}
 use Rattle.dimacs.specs.declared.ReadAnswer.{ReadAnswer}
 use Rattle.dimacs.specs.declared.ReadAnswer.the-variants.{Table}
 use Rattle.dimacs.specs.declared.WriteAnswer.{WriteAnswer}

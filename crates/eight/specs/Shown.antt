@@ -15,8 +15,10 @@ use Rattle.pair.specs.declared.PairAnswer.{PairAnswer}
 use Rattle.pair.specs.declared.PairAnswer.the-variants as pair
 use Rattle.heaviest.specs.declared.HeaviestAnswer.{HeaviestAnswer}
 use Rattle.heaviest.specs.declared.HeaviestAnswer.the-variants as heaviest
-use Rattle.listing.specs.declared.Listed.{Listed}
-use Rattle.listing.specs.declared.Listed.the-variants as listing
+use Rattle.window.specs.declared.WindowAnswer.{WindowAnswer}
+use Rattle.window.specs.declared.WindowAnswer.the-variants as window
+use Rattle.paging.specs.declared.Listed.{Listed}
+use Rattle.paging.specs.declared.Listed.the-variants as listed
 use Rattle.dimacs.specs.Write.{Wrote}
 use Rattle.dimacs.specs.declared.ReadAnswer.{ReadAnswer}
 use Rattle.dimacs.specs.declared.ReadAnswer.the-variants as read
@@ -42,6 +44,11 @@ abbrev pub heaviestInC : HeaviestAnswer → Call
 heaviestInC (heaviest.Between low high length weight) = inC 0 0 0 (pos low) (pos high) (pos length) weight []
 heaviestInC (heaviest.Refused why) = refusalInC why []
 
+-- low, high, count, weight
+abbrev pub windowInC : WindowAnswer → Call
+windowInC (window.Most low high count weight) = inC 0 0 0 (pos low) (pos high) (pos count) weight []
+windowInC (window.Refused why) = refusalInC why []
+
 -- no fields; the heads
 abbrev pub headsInC : HeadsAnswer × List ℕ → Call
 headsInC (heads.Written, list) = inC 0 0 0 (pos 0) (pos 0) (pos 0) (pos 0) list
@@ -49,8 +56,8 @@ headsInC (heads.Refused why, list) = refusalInC why list
 
 -- written, left; the rows
 abbrev pub listingInC : Listed × List ℕ → Call
-listingInC (listing.Rows written left, rows) = inC 0 0 0 (pos written) (pos left) (pos 0) (pos 0) rows
-listingInC (listing.Refused why, rows) = refusalInC why rows
+listingInC (listed.Rows written left, rows) = inC 0 0 0 (pos written) (pos left) (pos 0) (pos 0) rows
+listingInC (listed.Refused why, rows) = refusalInC why rows
 
 -- how many changed; the marks
 abbrev pub changeInC : Change × List ℕ → Call

@@ -10,6 +10,7 @@ ghost use Rattle.eight.specs.Shown.{
   acceptanceInC,
   pairInC,
   heaviestInC,
+  windowInC,
   headsInC,
   listingInC,
   changeInC,
@@ -21,6 +22,7 @@ ghost use Rattle.eight.specs.work.Room.{
   AcceptanceRoom,
   PairRoom,
   HeaviestRoom,
+  WindowRoom,
   HeadsRoom,
   PageRoom,
   ChangeRoom,
@@ -35,10 +37,11 @@ use convert::Conversion;
 use dimacs::ReadAnswer;
 use dimacs::WriteAnswer;
 use heaviest::HeaviestAnswer;
-use listing::Listed;
+use paging::Listed;
 use pair::PairAnswer;
 use spines::HeadsAnswer;
 use tree::Acceptance;
+use window::WindowAnswer;
 
 // Acceptance: the refusal, or nodes, bound.
 pub fn show_acceptance(o: Acceptance, answer: &mut [i64; 8]) -> u8
@@ -89,6 +92,33 @@ pub fn show_heaviest(o: HeaviestAnswer, answer: &mut [i64; 8]) -> u8
                 low as i64,
                 high as i64,
                 length as i64,
+                weight,
+            )
+        }
+    }
+}
+
+// The pair in a window with the most branches: the refusal, or low, high, count, weight.
+pub fn show_window(o: WindowAnswer, answer: &mut [i64; 8]) -> u8
+    requires { ⌜ WindowRoom o ⌝ }
+    ensures { λ r. ⌜ call r (now (answer .exit)) [] ≡ windowInC o ⌝ }
+{
+    match o {
+        WindowAnswer::Refused(why) => refuse(why, answer),
+        WindowAnswer::Most {
+            low,
+            high,
+            count,
+            weight,
+        } => {
+            fill(
+                answer,
+                0,
+                0,
+                0,
+                low as i64,
+                high as i64,
+                count as i64,
                 weight,
             )
         }

@@ -1,12 +1,13 @@
 -- Marks enter a path through what a branch weighs alone. Two sets of marks, free at the same places, give a path one
 -- weight, whoever the holders are: so the same entries pass under both. And under marks that are free at more places
 -- each path is there too, as long, and weighs no less.
-use Prim.Native.Nat.{ℕ}
+use Prim.Native.Nat.{ℕ, _-_}
 use mathlib.Core.Path.{_≡_, refl, sym, _∙_}
 use mathlib.Core.List.{List}
 use lib.IntN.{ℤ}
 use lib.Signed.{_≤ℤ_}
-use Rattle.net.specs.Value.{Total}
+use Rattle.net.specs.Net.{firstEnd, secondEnd}
+use Rattle.net.specs.Value.{Value, Total}
 use Rattle.net.proofs.Values.{total-same, total-keeps}
 use Rattle.marks.specs.Weighs.{weightUnder}
 use Rattle.marks.proofs.Weights.{Alike, Freer, holders-alike, freer-weighs}
@@ -16,8 +17,11 @@ use Rattle.pages.proofs.Qualifying.{passes-map}
 use Rattle.ground.specs.PathOf.{PathOf}
 
 module _ (s marks marks′ : List ℕ) (h : Alike marks marks′) (n : ℕ) where
-  pub path-alike : {a b l : ℕ} {w : ℤ} → PathOf s marks n a b l w → PathOf s marks′ n a b l w
-  path-alike p =
+  -- however long the branches are
+  pub value-alike : {long : ℕ → ℕ} {a b l : ℕ} {w : ℤ}
+      → Value (firstEnd s) (secondEnd s) (n - 1) long (weightUnder s marks) a b l w
+      → Value (firstEnd s) (secondEnd s) (n - 1) long (weightUnder s marks′) a b l w
+  value-alike p =
       record {
         rows = p .rows;
         path = p .path;
@@ -26,6 +30,9 @@ module _ (s marks marks′ : List ℕ) (h : Alike marks marks′) (n : ℕ) wher
             (total-same (weightUnder s marks) (weightUnder s marks′) (p .rows) (holders-alike s marks marks′ h))
             ∙ p .weight;
       }
+
+  pub path-alike : {a b l : ℕ} {w : ℤ} → PathOf s marks n a b l w → PathOf s marks′ n a b l w
+  path-alike p = value-alike p
 
   pub passes-alike : {Within : ℕ → Type 0} {Heavy : ℤ → Type 0} (e : Entry) → Passes (PathOf s marks n) Within Heavy n e
       → Passes (PathOf s marks′ n) Within Heavy n e

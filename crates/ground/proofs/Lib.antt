@@ -2,3 +2,4 @@
 pub mod Alike
 pub mod Bounds
 pub mod Branching
+pub mod Scanned

@@ -1,10 +1,9 @@
 -- The promise of heaviest allows one outcome, under any length test: of two heaviest runs each is at least as good as
 -- the other, so they agree in weight, length and pair.
-use Prim.Native.Nat.{ℕ, _<_}
+use Prim.Native.Nat.{ℕ}
 use mathlib.Core.Path.{_≡_, sym, ap}
 use mathlib.Core.List.{List}
 use native.Mathlib.Omega.{arith}
-use native.Mathlib.Decide.{decLt}
 use lib.Dec.{leb→le}
 use lib.IntN.{ℤ, pos, negsuc}
 use lib.Signed.{_≤ℤ_}
@@ -12,7 +11,8 @@ use Rattle.table.specs.Refuse.{Only}
 use Rattle.table.specs.Header.{nodesOf}
 use Rattle.table.proofs.Refusals.{unless-only}
 use Rattle.tree.proofs.Begins.{begins-only}
-use Rattle.pages.specs.Listing.{Entry, entry, Before, first, second}
+use Rattle.pages.specs.Listing.{Entry, entry}
+use Rattle.pages.proofs.Order.{one-pair}
 use Rattle.heaviest.specs.Heaviest.{
   heaviestRefusal,
   AtLeast,
@@ -30,23 +30,6 @@ level (pos m) (pos n) h k = ap pos (omega (arith, leb→le m n (h .le), leb→le
 level (pos m) (negsuc n) h k = absurd (h .le)
 level (negsuc m) (pos n) h k = absurd (k .le)
 level (negsuc m) (negsuc n) h k = ap negsuc (omega (arith, leb→le n m (h .le), leb→le m n (k .le)))
-
--- neither before the other
-one-pair : (e f : Entry) → ¬ Before e f → ¬ Before f e → (e .low ≡ f .low) × (e .high ≡ f .high)
-one-pair e f m o = pick (decLt (e .low) (f .low)) (decLt (f .low) (e .low))
-  where
-    pick : Dec (e .low < f .low) → Dec (f .low < e .low) → (e .low ≡ f .low) × (e .high ≡ f .high)
-    pick (yes h) d = absurd (m (first h))
-    pick (no h) (yes k) = absurd (o (first k))
-    pick (no h) (no k) = (low, seconds (decLt (e .high) (f .high)) (decLt (f .high) (e .high)))
-      where
-        low : e .low ≡ f .low
-        low = omega arith
-
-        seconds : Dec (e .high < f .high) → Dec (f .high < e .high) → e .high ≡ f .high
-        seconds (yes i) d = absurd (m (second low i))
-        seconds (no i) (yes j) = absurd (o (second (sym low) j))
-        seconds (no i) (no j) = omega arith
 
 pub heaviest-run-only : (P : Entry → Type 0) → Only (Heaviest P)
 heaviest-run-only P e f p q =

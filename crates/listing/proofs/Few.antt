@@ -1,48 +1,19 @@
--- What a page gives and leaves over is bounded. Together they are at most 4,096 × 4,096, for pairs of nodes below 4,096
--- rise; and the rows given stand in the lent bytes.
-use Prim.Native.Nat.{ℕ, _+_, _*_, _≤_, _<_}
-use mathlib.Core.Path.{refl, ap}
-use mathlib.Core.List.{List, [], _∷_}
-use native.Mathlib.Omega.{arith}
+-- What the listing gives and leaves over is bounded, and the rows given stand in the lent bytes, as of every page.
+use Prim.Native.Nat.{ℕ, _+_, _*_, _≤_}
+use mathlib.Core.List.{List}
 use lib.IntN.{ℤ}
-use lib.ListN.{length, length-append}
-use Rattle.arrays.specs.Members.{In, at, past}
-use Rattle.pages.specs.Listing.{Entry, first, second, Before, Rising, more}
-use Rattle.pages.proofs.Rows.{rows-length}
+use lib.ListN.{length}
+use Rattle.paging.specs.declared.Listed.the-variants.{Rows}
+use Rattle.paging.proofs.Few.{paged-few, paged-room}
 use Rattle.listing.specs.Listing.{ListingWithin}
-use Rattle.listing.specs.declared.Listed.the-variants.{Rows}
 use Rattle.listing.proofs.Only.{listing-page}
-
--- a pair's place among all pairs of nodes below 4,096
-abbrev place : Entry → ℕ
-place e = 4096 * e .low + e .high
-
-later : (x y : Entry) → x .high < 4096 → Before x y → place x < place y
-later x y h (first l) = omega arith
-later x y h (second e l) = omega arith
-
-rising-few : (l : List Entry) (b m : ℕ) → b ≤ m → Rising l
-    → ((e : Entry) → In e l → (e .high < 4096) × (b ≤ place e) × (place e < m)) → b + length l ≤ m
-rising-few [] b m h r p = omega arith
-rising-few (x ∷ l) b m h (more before r) p =
-    let here = p x (at refl) in
-    let rest = rising-few l (place x + 1) m (omega (arith, here .2)) r
-    (λ e i. (p e (past i) .0, omega (arith, later x e (here .0) (before e i)), p e (past i) .2)) in
-    omega (arith, here .1, rest)
 
 module _ (Within : ℕ → Type 0) (s marks : List ℕ) (floor : ℤ) (low high : ℕ) (old : List ℕ) {written left : ℕ}
     {bytes : List ℕ} (p : ListingWithin Within s marks floor low high old (Rows written left, bytes)) where
   pub listing-few : written + left ≤ 16777216
   listing-few =
       let n = listing-page Within s marks floor low high old p in
-      let g = n .1 .page in
-      let few = rising-few (g .rows) 0 16777216 (omega arith) (g .all .rising)
-      (λ e i.
-      let q = g .all .sound e i .0 in
-      (omega (arith, q .node, n .0 .few), omega arith, omega (arith, q .pair, q .node, n .0 .few))) in
-      omega (arith, n .1 .count, g .rest, few)
+      paged-few (n .0 .few) (n .1)
 
   pub listing-room : 16 * written ≤ length bytes
-  listing-room =
-      let g = listing-page Within s marks floor low high old p .1 in
-      omega (arith, g .count, simp (length-append, rows-length) at (ap length (g .bytes)))
+  listing-room = paged-room (listing-page Within s marks floor low high old p .1)

@@ -9,34 +9,23 @@ use Rattle.table.specs.Header.{nodesOf}
 use Rattle.table.proofs.Refusals.{unless-map}
 use Rattle.tree.proofs.Begins.{begins-alike}
 use Rattle.marks.proofs.Weights.{Alike}
-use Rattle.pages.specs.Passes.{Qualifies}
-use Rattle.pages.proofs.Pages.{page-iff}
-use Rattle.ground.specs.PathOf.{PathOf}
+use Rattle.paging.specs.Paging.{listingRefusal}
+use Rattle.paging.specs.declared.Listed.{Listed}
+use Rattle.paging.proofs.Alike.{gives-iff}
 use Rattle.ground.proofs.Alike.{passes-alike, flip}
-use Rattle.listing.specs.Listing.{listingRefusal, GivesPage, GoesOn, ListingWithin}
-use Rattle.listing.specs.declared.Listed.{Listed}
-use Rattle.listing.specs.declared.Listed.the-variants.{Rows, Refused}
+use Rattle.listing.specs.Listing.{GoesOn, ListingWithin}
 use Rattle.listing.proofs.Only.{goes-only}
-
-page-alike : (s marks marks′ : List ℕ) → Alike marks marks′
-    → (Within : ℕ → Type 0) (floor : ℤ) (n low high : ℕ) (old : List ℕ) (x : Listed × List ℕ)
-    → GivesPage (Qualifies (PathOf s marks n) Within floor n) low high old x
-    → GivesPage (Qualifies (PathOf s marks′ n) Within floor n) low high old x
-page-alike s marks marks′ h Within floor n low high old (Rows w l, bytes) p =
-    record {
-      some = p .some;
-      page = page-iff (passes-alike s marks marks′ h n) (passes-alike s marks′ marks (flip marks marks′ h) n) (p .page);
-      count = p .count;
-      bytes = p .bytes;
-    }
-page-alike s marks marks′ h Within floor n low high old (Refused why, bytes) p = p
 
 goes-alike : (s marks marks′ : List ℕ) → Alike marks marks′ → length marks ≡ length marks′
     → (Within : ℕ → Type 0) (floor : ℤ) (n low high : ℕ) (old : List ℕ) {x : Listed × List ℕ}
     → GoesOn Within s n marks floor low high old x → GoesOn Within s n marks′ floor low high old x
 goes-alike s marks marks′ h e Within floor n low high old {x = x} p =
     rw (← e)
-    (unless-map (λ o. o) (λ _. unless-map (λ o. o) (λ _. page-alike s marks marks′ h Within floor n low high old x)) p)
+    (unless-map (λ o. o)
+    (λ _. unless-map (λ o. o)
+    (λ _. gives-iff (passes-alike s marks marks′ h n) (passes-alike s marks′ marks (flip marks marks′ h) n) low high old
+    x))
+    p)
 
 pub holders-never-show : (Within : ℕ → Type 0) (s marks marks′ : List ℕ) → Alike marks marks′
     → length marks ≡ length marks′ → (floor : ℤ) (low high : ℕ) (old : List ℕ) (x y : Listed × List ℕ)

@@ -1,3 +1,2 @@
 -- What a reader must believe of this crate.
-pub mod Asks
 pub mod Listing

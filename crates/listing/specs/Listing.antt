@@ -8,21 +8,10 @@ use lib.ListN.{length}
 use Rattle.table.specs.Refuse.{Unless}
 use Rattle.table.specs.Header.{nodesOf, boundOf}
 use Rattle.tree.specs.Accept.{Begins}
-use Rattle.pages.specs.Listing.{Entry}
 use Rattle.pages.specs.Passes.{Qualifies}
-use Rattle.pages.specs.Paged.{Paged}
+use Rattle.paging.specs.Paging.{listingRefusal, GivesPage}
+use Rattle.paging.specs.declared.Listed.{Listed}
 use Rattle.ground.specs.PathOf.{PathOf}
-use Rattle.listing.specs.declared.Listed.{Listed}
-use Rattle.listing.specs.declared.Listed.the-variants.{Rows, Refused}
-
--- a refusal leaves the lent bytes as they were
-abbrev pub listingRefusal : List ℕ → ℕ → ℕ → ℕ → Listed × List ℕ
-listingRefusal old k r g = (Refused (record { number = k; row = r; ring = g }), old)
-
--- a page of what qualifies, from the starting pair on; an empty page is no refusal
-abbrev pub GivesPage : (Entry → Type 0) → ℕ → ℕ → List ℕ → Listed × List ℕ → Type 0
-GivesPage P low high old (Rows written left, now) = Paged P low high old written left now
-GivesPage P low high old (Refused why, now) = ⊥
 
 -- 13 and 17, then the page, of a net of n nodes under any length test
 abbrev pub GoesOn : (ℕ → Type 0) → List ℕ → ℕ → List ℕ → ℤ → ℕ → ℕ → List ℕ → Listed × List ℕ → Type 0

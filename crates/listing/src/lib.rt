@@ -7,14 +7,9 @@ ghost use Rattle.net.specs.work.Net.{Net};
 ghost use Rattle.limits.specs.work.Fits.{Within, Fits};
 ghost use Rattle.listing.specs.Listing.{GoesOn, ListingWithin, ListingOf, ListingExactOf};
 use limits::Limit;
+use paging::Listed;
 use tree::Acceptance;
 use tree::Refusal;
-
-// What a listing gives: the rows written and the rows left over, or why not.
-pub enum Listed {
-    Rows { written: usize, left: usize },
-    Refused(Refusal),
-}
 
 // The pairs strictly after (low, high), within the bound and weighing at least the floor: as many rows of 16 bytes as
 // fit.

@@ -1,5 +1,5 @@
 // The scan of an accepted net: for each first node from the start's on, the paths to all nodes, and of the second nodes
-// those that pass.
+// those that pass. What the limit is for, the key, is the length.
 ghost use mathlib.Core.Path.{_≡_};
 ghost use lib.ListN.{length};
 ghost use Rattle.net.specs.work.Net.{Net};
@@ -12,6 +12,8 @@ ghost use Rattle.ground.specs.work.Grounded.{ValueIn};
 use ground::grounded;
 use limits::Limit;
 use pages::Count;
+use pages::Sums;
+use table::SUM_END;
 
 // The first nodes in turn, from the start's on. above, len and wt are work arrays of the paths.
 fn firsts(
@@ -37,13 +39,16 @@ fn firsts(
     let mut len: [u64; 4096] = [0; 4096];
     let mut wt: [u64; 4096] = [0; 4096];
     let room = rows.len() / 16;
-    let f = pages::raised(floor);
+    let sums = Sums {
+        floor: pages::raised(floor),
+        end: SUM_END,
+    };
     let mut k = Count { given: 0, left: 0 };
     let mut u = low;
     while u < n {
         paths::paths_from(parent, order, place, bl, bw, n, u, above, &mut len, &mut wt);
         let from = pages::first_second(low, high, u, n);
-        k = pages::seconds(rows, room, &len, &wt, u, from, n, limit, f, k);
+        k = pages::seconds(rows, room, &len, &len, &wt, u, from, n, limit, sums, k);
         u += 1;
     }
     k

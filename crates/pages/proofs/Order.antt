@@ -1,6 +1,6 @@
--- Pair order: strict and transitive; every pair comes after (0, 0).
+-- Pair order: strict, transitive and total; every pair comes after (0, 0).
 use Prim.Native.Nat.{ℕ, _≤_, _<_}
-use mathlib.Core.Path.{_≡_, _∙_}
+use mathlib.Core.Path.{_≡_, sym, _∙_}
 use native.Mathlib.Omega.{arith}
 use native.Mathlib.Decide.{decLt}
 use Rattle.pages.specs.Listing.{Entry, After, first, second, Before}
@@ -34,3 +34,20 @@ not-before (second a b) = omega arith
 pub after-second : {s t : ℕ} {e : Entry} → After s t e → e .low ≡ s → t < e .high
 after-second (first a) h = absurd (omega arith)
 after-second (second a b) h = b
+
+-- neither comes before the other: one pair
+pub one-pair : (e f : Entry) → ¬ Before e f → ¬ Before f e → (e .low ≡ f .low) × (e .high ≡ f .high)
+one-pair e f m o = pick (decLt (e .low) (f .low)) (decLt (f .low) (e .low))
+  where
+    pick : Dec (e .low < f .low) → Dec (f .low < e .low) → (e .low ≡ f .low) × (e .high ≡ f .high)
+    pick (yes h) d = absurd (m (first h))
+    pick (no h) (yes k) = absurd (o (first k))
+    pick (no h) (no k) = (low, seconds (decLt (e .high) (f .high)) (decLt (f .high) (e .high)))
+      where
+        low : e .low ≡ f .low
+        low = omega arith
+
+        seconds : Dec (e .high < f .high) → Dec (f .high < e .high) → e .high ≡ f .high
+        seconds (yes i) d = absurd (m (second low i))
+        seconds (no i) (yes j) = absurd (o (second (sym low) j))
+        seconds (no i) (no j) = omega arith

@@ -8,14 +8,15 @@ use native.Mathlib.Decide.{decLt, ℕ-discrete}
 use Rattle.arrays.specs.At.{at}
 use Rattle.table.proofs.Lift.{diff-only}
 use Rattle.pages.specs.Listing.{Entry, entry, second}
-use Rattle.pages.specs.work.Lowered.{lower}
+use Rattle.pages.specs.work.Lowered.{lower, InSums}
+use Rattle.pages.specs.declared.Sums.{Sums}
 use Rattle.pages.specs.work.Filling.{Starts, Added, GrownBy, Here, Seconds}
 use Rattle.pages.proofs.Lift.{lower-is}
 use Rattle.pages.proofs.Filling.{grown-none, grown-iff, grown-end}
 
-module _ {Within : ℕ → Type 0} {len wt : List ℕ} {u from floor : ℕ} where
-  here-below : {v x : ℕ} {e : Entry} → e .high < x → Here Within len wt u from floor v e
-      → Here Within len wt u from floor x e
+module _ {Within : ℕ → Type 0} {key len wt : List ℕ} {u from : ℕ} {sums : Sums} where
+  here-below : {v x : ℕ} {e : Entry} → e .high < x → Here Within key len wt u from sums v e
+      → Here Within key len wt u from sums x e
   here-below l h =
       record {
         one = h .one;
@@ -27,18 +28,19 @@ module _ {Within : ℕ → Type 0} {len wt : List ℕ} {u from floor : ℕ} wher
         heavy = h .heavy;
       }
 
-  here-up : (v : ℕ) (e : Entry) → Here Within len wt u from floor v e → Here Within len wt u from floor (v + 1) e
+  pub here-up : (v : ℕ) (e : Entry) → Here Within key len wt u from sums v e
+      → Here Within key len wt u from sums (v + 1) e
   here-up v e h = here-below (omega (arith, h .upto)) h
 
-  here-down : (v : ℕ) (e : Entry) → Here Within len wt u from floor (v + 1) e
-      → Here Within len wt u from floor v e ⊎ (e .high ≡ v)
+  pub here-down : (v : ℕ) (e : Entry) → Here Within key len wt u from sums (v + 1) e
+      → Here Within key len wt u from sums v e ⊎ (e .high ≡ v)
   here-down v e h = pick (ℕ-discrete (e .high) v)
     where
-      pick : Dec (e .high ≡ v) → Here Within len wt u from floor v e ⊎ (e .high ≡ v)
+      pick : Dec (e .high ≡ v) → Here Within key len wt u from sums v e ⊎ (e .high ≡ v)
       pick (yes q) = inr q
       pick (no q) = inl (here-below (omega (arith, h .upto)) h)
 
-  here-is : (v : ℕ) (e : Entry) → Here Within len wt u from floor (v + 1) e → e .high ≡ v
+  pub here-is : (v : ℕ) (e : Entry) → Here Within key len wt u from sums (v + 1) e → e .high ≡ v
       → e ≡ entry u v (at len v) (lower (at wt v))
   here-is v e h q = λ i. record { low = h .one i; high = q i; length = l i; weight = w i }
     where
@@ -49,10 +51,10 @@ module _ {Within : ℕ → Type 0} {len wt : List ℕ} {u from floor : ℕ} wher
       w = diff-only (rw q at (h .load)) (lower-is (at wt v))
 
   module _ (v : ℕ) {old mid : List ℕ} {g l g₁ l₁ : ℕ}
-      (r : GrownBy (Here Within len wt u from floor v) old g l mid g₁ l₁) where
-    here-add : {now : List ℕ} {g₂ l₂ : ℕ} → from ≤ v → Within (at len v) → floor ≤ at wt v
+      (r : GrownBy (Here Within key len wt u from sums v) old g l mid g₁ l₁) where
+    here-add : {now : List ℕ} {g₂ l₂ : ℕ} → from ≤ v → Within (at key v) → InSums sums (at wt v)
         → Added (entry u v (at len v) (lower (at wt v))) mid g₁ l₁ now g₂ l₂
-        → GrownBy (Here Within len wt u from floor (v + 1)) old g l now g₂ l₂
+        → GrownBy (Here Within key len wt u from sums (v + 1)) old g l now g₂ l₂
     here-add h p q a =
         grown-end (entry u v (at len v) (lower (at wt v))) r a
         (record {
@@ -66,40 +68,41 @@ module _ {Within : ℕ → Type 0} {len wt : List ℕ} {u from floor : ℕ} wher
         })
         (here-up v) (λ x k. second (k .one) (k .upto)) (λ x k. pick x k (here-down v x k))
       where
-        pick : (x : Entry) → Here Within len wt u from floor (v + 1) x
-            → Here Within len wt u from floor v x ⊎ (x .high ≡ v)
-            → Here Within len wt u from floor v x ⊎ (x ≡ entry u v (at len v) (lower (at wt v)))
+        pick : (x : Entry) → Here Within key len wt u from sums (v + 1) x
+            → Here Within key len wt u from sums v x ⊎ (x .high ≡ v)
+            → Here Within key len wt u from sums v x ⊎ (x ≡ entry u v (at len v) (lower (at wt v)))
         pick x k (inl d) = inl d
         pick x k (inr q) = inr (here-is v x k q)
 
-    here-skip : (Within (at len v) → floor ≤ at wt v → ⊥)
-        → GrownBy (Here Within len wt u from floor (v + 1)) old g l mid g₁ l₁
+    here-skip : (Within (at key v) → InSums sums (at wt v) → ⊥)
+        → GrownBy (Here Within key len wt u from sums (v + 1)) old g l mid g₁ l₁
     here-skip no-way = grown-iff (here-up v) (λ x k. pick x k (here-down v x k)) r
       where
-        pick : (x : Entry) → Here Within len wt u from floor (v + 1) x
-            → Here Within len wt u from floor v x ⊎ (x .high ≡ v) → Here Within len wt u from floor v x
+        pick : (x : Entry) → Here Within key len wt u from sums (v + 1) x
+            → Here Within key len wt u from sums v x ⊎ (x .high ≡ v) → Here Within key len wt u from sums v x
         pick x k (inl d) = d
         pick x k (inr q) = absurd (no-way (rw q at (k .short)) (rw q at (k .heavy)))
 
   module _ {old : List ℕ} {g l : ℕ} where
-    pub seconds-none : Seconds Within len wt u from floor from old g l old g l
+    pub seconds-none : Seconds Within key len wt u from sums from old g l old g l
     seconds-none = record { grown = grown-none old g l (λ e h. omega (arith, h .since, h .upto)); few = omega arith }
 
-    module _ (v : ℕ) {mid : List ℕ} {g₁ l₁ : ℕ} (a : Seconds Within len wt u from floor v old g l mid g₁ l₁) (x y : ℕ)
-        (ex : x ≡ at len v) (ey : y ≡ at wt v) where
-      pub seconds-add : {now : List ℕ} {g₂ l₂ : ℕ} → from ≤ v → Within x × (floor ≤ y)
+    module _ (v : ℕ) {mid : List ℕ} {g₁ l₁ : ℕ} (a : Seconds Within key len wt u from sums v old g l mid g₁ l₁)
+        (z y : ℕ) (ez : z ≡ at key v) (ey : y ≡ at wt v) where
+      pub seconds-add : {now : List ℕ} {g₂ l₂ : ℕ} (x : ℕ) → x ≡ at len v → from ≤ v → Within z × InSums sums y
           → Added (entry u v x (lower y)) mid g₁ l₁ now g₂ l₂
-          → Seconds Within len wt u from floor (v + 1) old g l now g₂ l₂
-      seconds-add h p d =
+          → Seconds Within key len wt u from sums (v + 1) old g l now g₂ l₂
+      seconds-add x ex h p d =
           record {
-            grown = here-add v (a .grown) h (rw ex at (p .0)) (rw ey at (p .1)) (rw (ex, ey) at d);
+            grown = here-add v (a .grown) h (rw ez at (p .0)) (rw ey at (p .1)) (rw (ex, ey) at d);
             few = omega (arith, a .few, d .few);
           }
 
-      pub seconds-skip : (Within x × (floor ≤ y) → ⊥) → Seconds Within len wt u from floor (v + 1) old g l mid g₁ l₁
+      pub seconds-skip : (Within z × InSums sums y → ⊥)
+          → Seconds Within key len wt u from sums (v + 1) old g l mid g₁ l₁
       seconds-skip no-way =
           record {
-            grown = here-skip v (a .grown) (λ p q. no-way (rw (← ex) at p, rw (← ey) at q));
+            grown = here-skip v (a .grown) (λ p q. no-way (rw (← ez) at p, rw (← ey) at q));
             few = omega (arith, a .few);
           }
 

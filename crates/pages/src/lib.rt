@@ -1,5 +1,6 @@
-// Pages of the listing: rows of 16 bytes in lent memory, filled in pair order, one first node at a time. Knows no tree:
-// the lengths and the lifted weights of a node's paths come in two lent arrays.
+// Pages of a listing: rows of 16 bytes in lent memory, filled in pair order, one first node at a time. Knows no tree:
+// the keys, the lengths and the lifted weights of a node's paths come in three lent arrays. A key is what the limit is
+// for: a listing that goes by the length lends one array twice.
 ghost use mathlib.Core.Path.{_≡_};
 ghost use Prim.Native.Nat.{_+_, _*_, _≤_, _<_};
 ghost use lib.ListN.{length};
@@ -9,7 +10,7 @@ ghost use mir.Val.{ofZ};
 ghost use Rattle.limits.specs.work.Fits.{Fits, Decides};
 ghost use Rattle.pages.specs.Listing.{entry};
 ghost use Rattle.pages.specs.Bytes.{row};
-ghost use Rattle.pages.specs.work.Lowered.{lower, Raised};
+ghost use Rattle.pages.specs.work.Lowered.{lower, Raised, Capped, InSums};
 ghost use Rattle.pages.specs.work.Filling.{Starts, Added, SecondsReady, Seconds};
 use limits::Limit;
 use limits::fits;
@@ -20,6 +21,12 @@ use table::SUM_LIFT;
 const SIGNED_LIFT: i64 = SUM_LIFT as i64;
 
 const LEAST: i64 = -SIGNED_LIFT;
+
+// The lifted weights that pass: from floor on, below end.
+pub struct Sums {
+    pub floor: u64,
+    pub end: u64,
+}
 
 // The rows written and the rows left over.
 pub struct Count {
@@ -74,14 +81,17 @@ fn add(out: &mut [u8], room: usize, a: usize, b: usize, l: u64, x: u64, c: Count
     }
 }
 
-// Whether a length fits the limit and a lifted weight is at least the lifted floor.
-fn passes(l: u64, x: u64, limit: Limit, floor: u64) -> bool
-    ensures { λ r. ⌜ Decides (Fits limit l × (floor ≤ x)) r ⌝ }
+// Whether a key fits the limit and a lifted weight is one that passes.
+fn passes(y: u64, x: u64, limit: Limit, sums: Sums) -> bool
+    ensures { λ r. ⌜ Decides (Fits limit y × InSums sums x) r ⌝ }
 {
-    if x < floor {
+    if x < sums.floor {
         return false;
     }
-    fits(limit, l)
+    if sums.end <= x {
+        return false;
+    }
+    fits(limit, y)
 }
 
 // One more than x, and n where that is above n.
@@ -110,25 +120,27 @@ pub fn first_second(s: usize, t: usize, u: usize, n: usize) -> usize
 pub fn seconds(
     out: &mut [u8],
     room: usize,
+    key: &[u64; 4096],
     len: &[u64; 4096],
     wt: &[u64; 4096],
     u: usize,
     from: usize,
     n: usize,
     limit: Limit,
-    floor: u64,
+    sums: Sums,
     c: Count,
 ) -> Count
-    requires { ⌜ SecondsReady (now out) room (now len) (now wt) u from n (c .left) ⌝ }
-    ensures { λ r. ⌜ Seconds (Fits limit) (now (len .entry)) (now (wt .entry)) u from floor n (now (out .entry))
-        (c .given) (c .left) (now (out .exit)) (r .given) (r .left) ⌝ }
+    requires { ⌜ SecondsReady (now out) room (now wt) u from n (c .left) ⌝ }
+    ensures { λ r. ⌜ Seconds (Fits limit) (now (key .entry)) (now (len .entry)) (now (wt .entry)) u from sums n
+        (now (out .entry)) (c .given) (c .left) (now (out .exit)) (r .given) (r .left) ⌝ }
 {
     let mut k = c;
     let mut v = from;
     while v < n {
-        let l = len[v];
+        let y = key[v];
         let x = wt[v];
-        if passes(l, x, limit, floor) {
+        if passes(y, x, limit, sums) {
+            let l = len[v];
             k = add(out, room, u, v, l, x, k);
         }
         v += 1;
@@ -147,4 +159,15 @@ pub fn raised(floor: i64) -> u64
         return 0;
     }
     (floor + SIGNED_LIFT) as u64
+}
+
+// Where the lifted weights of at most the ceiling end; 0 where it is below all that can be lifted.
+pub fn capped(ceiling: i64) -> u64
+    ensures { λ r. ⌜ Capped ceiling r ⌝ }
+{
+    if ceiling >= LEAST {
+        let r = raised(ceiling);
+        return r + 1;
+    }
+    0
 }

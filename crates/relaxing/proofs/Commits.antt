@@ -1,6 +1,6 @@
--- NO ANSWER TELLS OF A COMMIT: pair, heaviest and listing, in both modes, answer after a commit as they did before it,
--- whether it was refused or not. The marks before and after are free at the same places, and who holds or has spent a
--- branch never shows. It stands in this crate, which sees all of these operations.
+-- NO ANSWER TELLS OF A COMMIT: pair, heaviest and listing, these two in both modes, window and window_list answer after
+-- a commit as they did before it, whether it was refused or not. The marks before and after are free at the same
+-- places, and who holds or has spent a branch never shows. It stands in this crate, which sees all of these operations.
 use Prim.Native.Nat.{ℕ}
 use mathlib.Core.Path.{_≡_, sym}
 use mathlib.Core.List.{List}
@@ -15,9 +15,13 @@ use Rattle.pair.proofs.Holders.{pair-holders}
 use Rattle.heaviest.specs.Heaviest.{HeaviestWithin}
 use Rattle.heaviest.specs.declared.HeaviestAnswer.{HeaviestAnswer}
 use Rattle.heaviest.proofs.Holders.{heaviest-holders-never-show}
+use Rattle.paging.specs.declared.Listed.{Listed}
 use Rattle.listing.specs.Listing.{ListingWithin}
-use Rattle.listing.specs.declared.Listed.{Listed}
 use Rattle.listing.proofs.Holders.{holders-never-show}
+use Rattle.window.specs.Window.{Window, WindowOf}
+use Rattle.window.specs.List.{WindowListOf}
+use Rattle.window.specs.declared.WindowAnswer.{WindowAnswer}
+use Rattle.window.proofs.Holders.{window-holders-never-show, window-list-holders-never-show}
 
 -- o is what the commit leaves: its answer, and the marks
 module _ (s before : List ℕ) {run : ℕ} (o : Change × List ℕ) (p : Commits s before run o) where
@@ -38,3 +42,11 @@ module _ (s before : List ℕ) {run : ℕ} (o : Change × List ℕ) (p : Commits
         → ListingWithin Within s before floor low high old x → ListingWithin Within s (o .1) floor low high old y
         → x ≡ y
     listing-after-commit = holders-never-show Within s before (o .1) (left .so) (sym (left .same-many))
+
+  module _ (w : Window) where
+    pub window-after-commit : (x y : WindowAnswer) → WindowOf s before w x → WindowOf s (o .1) w y → x ≡ y
+    window-after-commit = window-holders-never-show s before (o .1) (left .so) (sym (left .same-many)) w
+
+    pub window-list-after-commit : (low high : ℕ) (old : List ℕ) (x y : Listed × List ℕ)
+        → WindowListOf s before w low high old x → WindowListOf s (o .1) w low high old y → x ≡ y
+    window-list-after-commit = window-list-holders-never-show s before (o .1) (left .so) (sym (left .same-many)) w

@@ -15,22 +15,25 @@ use Rattle.pages.specs.Listing.{Entry, Listing}
 use Rattle.pages.specs.Bytes.{entries}
 use Rattle.pages.proofs.Rows.{rows-length}
 use Rattle.pages.proofs.Qualifying.{passes-map}
-use Rattle.listing.specs.Listing.{listingRefusal, GivesPage, ListingWithin}
-use Rattle.listing.specs.Asks.{Asks}
-use Rattle.listing.specs.declared.Listed.{Listed}
-use Rattle.listing.specs.declared.Listed.the-variants.{Rows, Refused}
-use Rattle.listing.proofs.Demand3.{Considered, there-is, join-up, loses-nothing}
+use Rattle.paging.specs.Paging.{listingRefusal, GivesPage}
+use Rattle.paging.specs.Asks.{Asks}
+use Rattle.paging.specs.declared.Listed.{Listed}
+use Rattle.paging.specs.declared.Listed.the-variants.{Rows, Refused}
+use Rattle.paging.proofs.Demand3.{there-is, join-up, loses-nothing}
+use Rattle.listing.specs.Listing.{ListingWithin}
+use Rattle.listing.proofs.Demand3.{Considered, listing-lists}
 use Rattle.relaxing.specs.Relaxed.{Sublist, rowsIn}
 use Rattle.relaxing.proofs.Sublists.{listing-sublist}
 
 -- the rows of joined calls are the listing
 asked-rows : (Within : ℕ → Type 0) (s marks : List ℕ) (floor : ℤ) {joined : List ℕ} {l : List Entry}
-    → Asks Within s marks floor 0 0 joined → Listing (Considered Within s marks floor) l → rowsIn joined ≡ l
+    → Asks (ListingWithin Within s marks floor) 0 0 joined → Listing (Considered Within s marks floor) l
+    → rowsIn joined ≡ l
 asked-rows Within s marks floor {joined} {l} a w =
-    ap (entries joined 0) many ∙ loses-nothing Within s marks floor a w
+    ap (entries joined 0) many ∙ loses-nothing (listing-lists Within s marks floor) a w
   where
     many : length joined / 16 ≡ length l
-    many = omega (arith, ap length (join-up Within s marks floor a w), rows-length l)
+    many = omega (arith, ap length (join-up (listing-lists Within s marks floor) a w), rows-length l)
 
 module _ (Within : ℕ → Type 0) (s marks : List ℕ) {floor lower : ℤ} (h : lower ≤ℤ floor) where
   qualifies-too : (e : Entry) → Considered Within s marks floor e → Considered Within s marks lower e
@@ -40,11 +43,11 @@ module _ (Within : ℕ → Type 0) (s marks : List ℕ) {floor lower : ℤ} (h :
       → Listing (Considered Within s marks lower) m → Sublist l m
   lower-floor-list = listing-sublist qualifies-too
 
-  pub lower-floor-rows : {joined joined′ : List ℕ} → Asks Within s marks floor 0 0 joined
-      → Asks Within s marks lower 0 0 joined′ → Sublist (rowsIn joined) (rowsIn joined′)
+  pub lower-floor-rows : {joined joined′ : List ℕ} → Asks (ListingWithin Within s marks floor) 0 0 joined
+      → Asks (ListingWithin Within s marks lower) 0 0 joined′ → Sublist (rowsIn joined) (rowsIn joined′)
   lower-floor-rows a b =
-      let l = there-is Within s marks floor a in
-      let m = there-is Within s marks lower b in
+      let l = there-is (listing-lists Within s marks floor) a in
+      let m = there-is (listing-lists Within s marks lower) b in
       rw (asked-rows Within s marks floor a (l .1), asked-rows Within s marks lower b (m .1))
       (lower-floor-list (l .1) (m .1))
 

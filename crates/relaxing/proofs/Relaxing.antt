@@ -21,9 +21,9 @@ use Rattle.changes.proofs.Freed.{claim-frees-none, abort-takes-none}
 use Rattle.heaviest.specs.Heaviest.{heaviestRefusal, HeaviestOf, HeaviestExactOf}
 use Rattle.heaviest.specs.declared.HeaviestAnswer.{HeaviestAnswer}
 use Rattle.heaviest.specs.declared.HeaviestAnswer.the-variants.{Between, Refused}
+use Rattle.paging.specs.declared.Listed.{Listed}
+use Rattle.paging.specs.declared.Listed.the-variants as listed
 use Rattle.listing.specs.Listing.{ListingOf}
-use Rattle.listing.specs.declared.Listed.{Listed}
-use Rattle.listing.specs.declared.Listed.the-variants as listed
 use Rattle.worked.specs.Cases.{net2}
 use Rattle.worked.proofs.Worked.{exact-found, exact-lost}
 use Rattle.relaxing.specs.Relaxed.{

@@ -10,7 +10,8 @@ use Rattle.table.specs.Header.{boundOf}
 use Rattle.tree.specs.declared.Refusal.{Refusal}
 use Rattle.pages.specs.Listing.{Entry}
 use Rattle.pages.specs.Bytes.{entries}
-use Rattle.listing.specs.Asks.{Asks}
+use Rattle.paging.specs.Asks.{Asks}
+use Rattle.listing.specs.Listing.{ListingOf}
 use Rattle.heaviest.specs.Heaviest.{heaviestRefusal}
 use Rattle.heaviest.specs.declared.HeaviestAnswer.{HeaviestAnswer}
 use Rattle.heaviest.specs.declared.HeaviestAnswer.the-variants.{Between, Refused}
@@ -43,7 +44,7 @@ pub data Sublist {A : Type 0} : List A → List A → Type 0 where
 
 -- calls of the listing from (0, 0) on until none is left, none of them refused, gave these bytes, joined
 abbrev pub Gave : List ℕ → List ℕ → ℤ → List ℕ → Type 0
-Gave s marks floor joined = Asks (λ l. l ≤ boundOf s) s marks floor 0 0 joined
+Gave s marks floor joined = Asks (ListingOf s marks floor) 0 0 joined
 
 -- the rows in them, 16 bytes each
 abbrev pub rowsIn : List ℕ → List Entry

@@ -22,8 +22,8 @@ use Rattle.pages.proofs.Back.{rows-back, entries-next}
 use Rattle.pages.proofs.Pages.{pages-listing, page-full}
 use Rattle.pages.proofs.Calls.{calls-pages}
 use Rattle.tree.specs.declared.Refusal.{Refusal}
+use Rattle.paging.specs.declared.Listed.the-variants.{Rows, Refused}
 use Rattle.listing.specs.Listing.{ListingOf}
-use Rattle.listing.specs.declared.Listed.the-variants.{Rows, Refused}
 use Rattle.listing.proofs.Few.{listing-room, listing-few}
 use Rattle.listing.proofs.Only.{listing-page}
 use Rattle.ground.proofs.Bounds.{passes-fits}

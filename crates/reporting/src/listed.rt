@@ -5,8 +5,8 @@ ghost use lib.ListN.{length};
 ghost use Rattle.reporting.specs.work.Asked.{ListingReady, Asked};
 ghost use Rattle.reporting.specs.work.Pieces.{ReportLent, Going, Shown};
 use crate::Piece;
-use listing::Listed;
 use numbers::two;
+use paging::Listed;
 
 // What a page has, and what it leaves over.
 pub(crate) struct Count {

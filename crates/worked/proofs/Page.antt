@@ -17,8 +17,9 @@ use Rattle.pages.specs.Page.{Following}
 use Rattle.pages.proofs.Qualifying.{passes-map}
 use Rattle.pages.specs.Bytes.{rows}
 use Rattle.ground.specs.PathOf.{PathOf}
-use Rattle.listing.specs.Listing.{listingRefusal, ListingOf}
-use Rattle.listing.specs.declared.Listed.the-variants.{Rows}
+use Rattle.paging.specs.Paging.{listingRefusal}
+use Rattle.paging.specs.declared.Listed.the-variants.{Rows}
+use Rattle.listing.specs.Listing.{ListingOf}
 use Rattle.worked.proofs.Tests.{
   either,
   every,

@@ -24,7 +24,7 @@ use Rattle.spines.specs.declared.HeadsAnswer.the-variants as written
 use Rattle.changes.specs.declared.Change.the-variants as change
 use Rattle.heaviest.specs.Heaviest.{heaviestRefusal, HeaviestExactOf}
 use Rattle.heaviest.specs.declared.HeaviestAnswer.the-variants.{Between}
-use Rattle.listing.specs.declared.Listed.the-variants as listed
+use Rattle.paging.specs.declared.Listed.the-variants as listed
 use Rattle.pair.specs.declared.PairAnswer.the-variants as path
 use Rattle.worked.specs.Case.{Case, accept, heaviest, exact, listing, heads, leaves, pair, claim, Holds, All}
 use Rattle.worked.specs.Cases.{net5, n5, cells5, net2, unmarked, held, marked, crossed, lent, three, cases}

@@ -17,8 +17,8 @@ use Rattle.heaviest.specs.Heaviest.{HeaviestOf, HeaviestExactOf}
 use Rattle.heaviest.specs.declared.HeaviestAnswer.{HeaviestAnswer}
 use Rattle.pair.specs.Pair.{PairOf}
 use Rattle.pair.specs.declared.PairAnswer.{PairAnswer}
+use Rattle.paging.specs.declared.Listed.{Listed}
 use Rattle.listing.specs.Listing.{ListingOf}
-use Rattle.listing.specs.declared.Listed.{Listed}
 
 -- the table's net has these leaves and no others
 pub record LeavesAre (s nodes : List ℕ) : Type 0 where

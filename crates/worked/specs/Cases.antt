@@ -10,7 +10,7 @@ use Rattle.changes.specs.Change.{changeRefusal}
 use Rattle.changes.specs.declared.Change.the-variants.{Changed}
 use Rattle.heaviest.specs.Heaviest.{heaviestRefusal}
 use Rattle.heaviest.specs.declared.HeaviestAnswer.the-variants.{Between}
-use Rattle.listing.specs.declared.Listed.the-variants.{Rows}
+use Rattle.paging.specs.declared.Listed.the-variants.{Rows}
 use Rattle.pair.specs.declared.PairAnswer.the-variants.{Found}
 use Rattle.worked.specs.Case.{Case, accept, heaviest, exact, listing, heads, leaves, pair, claim}
 

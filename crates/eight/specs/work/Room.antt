@@ -13,8 +13,10 @@ use Rattle.pair.specs.declared.PairAnswer.{PairAnswer}
 use Rattle.pair.specs.declared.PairAnswer.the-variants as pair
 use Rattle.heaviest.specs.declared.HeaviestAnswer.{HeaviestAnswer}
 use Rattle.heaviest.specs.declared.HeaviestAnswer.the-variants as heaviest
-use Rattle.listing.specs.declared.Listed.{Listed}
-use Rattle.listing.specs.declared.Listed.the-variants as listing
+use Rattle.window.specs.declared.WindowAnswer.{WindowAnswer}
+use Rattle.window.specs.declared.WindowAnswer.the-variants as window
+use Rattle.paging.specs.declared.Listed.{Listed}
+use Rattle.paging.specs.declared.Listed.the-variants as listed
 use Rattle.dimacs.specs.declared.ReadAnswer.{ReadAnswer}
 use Rattle.dimacs.specs.declared.ReadAnswer.the-variants as read
 use Rattle.dimacs.specs.declared.WriteAnswer.{WriteAnswer}
@@ -38,6 +40,10 @@ abbrev pub HeaviestRoom : HeaviestAnswer → Type 0
 HeaviestRoom (heaviest.Between low high length weight) = Unit {0}
 HeaviestRoom (heaviest.Refused why) = Room (why .row) (why .ring)
 
+abbrev pub WindowRoom : WindowAnswer → Type 0
+WindowRoom (window.Most low high count weight) = Unit {0}
+WindowRoom (window.Refused why) = Room (why .row) (why .ring)
+
 abbrev pub HeadsRoom : HeadsAnswer → Type 0
 HeadsRoom heads.Written = Unit {0}
 HeadsRoom (heads.Refused why) = Room (why .row) (why .ring)
@@ -52,8 +58,8 @@ ConversionRoom (conversion.Refused why) = Room (why .row) (why .ring)
 
 -- of a page also counts of 63 bits
 abbrev pub PageRoom : Listed → Type 0
-PageRoom (listing.Rows written left) = written + left < 9223372036854775808
-PageRoom (listing.Refused why) = Room (why .row) (why .ring)
+PageRoom (listed.Rows written left) = written + left < 9223372036854775808
+PageRoom (listed.Refused why) = Room (why .row) (why .ring)
 
 -- of a table made and of texts written, sizes of 63 bits
 abbrev pub ReadRoom : ReadAnswer → Type 0

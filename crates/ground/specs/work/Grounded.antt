@@ -20,6 +20,11 @@ abbrev pub ValueIn : {n : ℕ} {parent order place bl bw : List ℕ} → Ground 
     → Type 0
 ValueIn g = Value (g .u) (g .v) (g .k) (g .long) (g .heavy)
 
+-- the same of the length alone: what a scan goes by, in this net or in one whose branches have other lengths
+abbrev pub LengthIn : {n : ℕ} {parent order place bl bw : List ℕ} → Ground n parent order place bl bw → ℕ → ℕ → ℕ
+    → Type 0
+LengthIn g a b l = (w : ℤ) × ValueIn g a b l w
+
 -- what is asked to read the branches: each node's row is a row of the net
 pub record BranchesReadable (s : List ℕ) (n : ℕ) (half : List ℕ) : Type 0 where
   pub net : Net s n

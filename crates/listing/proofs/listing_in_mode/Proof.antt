@@ -4,7 +4,7 @@ use borrow.Author.Needs.{needs}
 use mir.Syntax.{w64}
 use mir.ValLaws.{toZ-ofZ}
 use Rattle.tree.proofs.Begins.{admitted, refused-on, passed-on}
-use Rattle.listing.specs.Listing.{listingRefusal}
+use Rattle.paging.specs.Paging.{listingRefusal}
 use Rattle.listing.proofs.listing_in_mode.Statement.{statement}
 use Rattle.listing.proofs.listing_in_mode.Tie as tie
 

@@ -7,6 +7,8 @@ use Rattle.arrays.specs.At.{at}
 use Rattle.table.specs.work.Diff.{Diff}
 use Rattle.pages.specs.Listing.{Entry, Listing}
 use Rattle.pages.specs.Bytes.{rows}
+use Rattle.pages.specs.work.Lowered.{InSums}
+use Rattle.pages.specs.declared.Sums.{Sums}
 use Rattle.table.specs.work.Lift.{sumLift, sumEnd}
 
 -- the second nodes of u that make a pair after the start (s, t), for s at most u: those from r on
@@ -39,18 +41,19 @@ pub record GrownBy (X : Entry → Type 0) (old : List ℕ) (given left : ℕ) (n
   pub same : length now ≡ length old
 
 -- the entries of first node u whose second node is from `from` on and below v, with the lengths and lifted weights that
--- two lists hold, within the length test and at least the lifted floor
-pub record Here (Within : ℕ → Type 0) (len wt : List ℕ) (u from floor v : ℕ) (e : Entry) : Type 0 where
+-- two lists hold, whose key, which a third holds, is within the test and whose lifted weight passes
+pub record Here (Within : ℕ → Type 0) (key len wt : List ℕ) (u from : ℕ) (sums : Sums) (v : ℕ) (e : Entry) : Type
+    0 where
   pub one : e .low ≡ u
   pub since : from ≤ e .high
   pub upto : e .high < v
   pub reach : e .length ≡ at len (e .high)
   pub load : Diff (at wt (e .high)) sumLift (e .weight)
-  pub short : Within (at len (e .high))
-  pub heavy : floor ≤ at wt (e .high)
+  pub short : Within (at key (e .high))
+  pub heavy : InSums sums (at wt (e .high))
 
 -- what the scan of one first node asks, and what it gives
-pub record SecondsReady (out : List ℕ) (room : ℕ) (len wt : List ℕ) (u from n left : ℕ) : Type 0 where
+pub record SecondsReady (out : List ℕ) (room : ℕ) (wt : List ℕ) (u from n left : ℕ) : Type 0 where
   pub low : 16 * room ≤ length out
   pub high : length out < 16 * room + 16
   pub nodes : n ≤ 4096
@@ -59,7 +62,7 @@ pub record SecondsReady (out : List ℕ) (room : ℕ) (len wt : List ℕ) (u fro
   pub few : left ≤ 4096 * u
   pub node : u < 4096
 
-pub record Seconds (Within : ℕ → Type 0) (len wt : List ℕ) (u from floor v : ℕ) (old : List ℕ) (given left : ℕ)
-    (now : List ℕ) (given₁ left₁ : ℕ) : Type 0 where
-  pub grown : GrownBy (Here Within len wt u from floor v) old given left now given₁ left₁
+pub record Seconds (Within : ℕ → Type 0) (key len wt : List ℕ) (u from : ℕ) (sums : Sums) (v : ℕ) (old : List ℕ)
+    (given left : ℕ) (now : List ℕ) (given₁ left₁ : ℕ) : Type 0 where
+  pub grown : GrownBy (Here Within key len wt u from sums v) old given left now given₁ left₁
   pub few : left₁ + from ≤ left + v

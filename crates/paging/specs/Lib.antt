@@ -1,0 +1,3 @@
+-- What a reader must believe of this crate.
+pub mod Asks
+pub mod Paging
