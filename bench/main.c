@@ -15,12 +15,12 @@
 enum { SIZES = 3, PAGE = 65536 };
 /* The operations that are measured, and from OPS on those that are only compared; 2: of the table of version 2. */
 enum op { HEAVIEST, HEAVIEST_EXACT, LISTING, LISTING_EXACT, WINDOW, WINDOW_LIST, WINDOW_HALF, WINDOW_LIST_HALF,
-          PAIR, PAIR_2, CLAIM, CONVERT, RING, OPS,
+          PAIR, PAIR_2, CLAIM, CONVERT, ACCEPT, RING, OPS,
           ACCEPT_2 = OPS, HEAVIEST_2, LISTING_2, WINDOW_2, WINDOW_LIST_2, COMMIT, ALL };
 static const size_t sizes[SIZES] = {256, 1024, 4096};
 static const char *op_names[ALL] = {"Heaviest", "Heaviest exact", "Listing", "Listing exact", "Window", "Window list",
                                     "Window with an upper limit", "Window list with an upper limit",
-                                    "Pair", "Pair, version 2", "Claim and abort", "Convert", "Refusal 11",
+                                    "Pair", "Pair, version 2", "Claim and abort", "Convert", "Acceptance", "Refusal 11",
                                     "Acceptance, version 2", "Heaviest, version 2", "Listing, version 2",
                                     "Window, version 2", "Window list, version 2", "Claim and commit"};
 
@@ -60,7 +60,8 @@ static void call(int op, int library, uint16_t a, uint16_t b, int64_t answer[8])
         (library ? hb_pair : scan_pair)(op == PAIR ? table : table_2, table_len, marks, m, a, b, answer);
         answer[5] = 0; /* hops, which a scan does not have */
         break;
-    case ACCEPT_2: (library ? hb_accept : scan_accept)(table_2, table_len, answer); break;
+    case ACCEPT:
+    case ACCEPT_2: (library ? hb_accept : scan_accept)(op == ACCEPT ? table : table_2, table_len, answer); break;
     case HEAVIEST_2: (library ? hb_heaviest : scan_heaviest)(table_2, table_len, marks, m, answer); break;
     case LISTING_2:
         (library ? hb_listing : scan_listing)(table_2, table_len, marks, m, best_2[6] - 50, 0, 0, page, PAGE, answer);

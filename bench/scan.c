@@ -1,6 +1,7 @@
-/* The plain scan (scan.h). Refusals, rows, neighbours, then a walk from a node that gives every length and weight, or
-   for a window every count and weight: for one node, or for each in turn; the rows of a ring by a walk too. A walk goes
-   to every node, also past the bound or a window's upper count limit. Its hops are left 0: a scan has no spines. */
+/* The plain scan (scan.h). Refusals, rows, neighbours where a walk follows, then a walk from a node that gives every
+   length and weight, or for a window every count and weight: for one node, or for each in turn; the rows of a ring by a
+   walk too. A walk goes to every node, also past the bound or a window's upper count limit. Its hops are left 0: a scan
+   has no spines. */
 #include "scan.h"
 #include <string.h>
 
@@ -99,7 +100,7 @@ static int32_t score(uint32_t kind) {
     return kind < 32 ? 0 : -50; /* filler; blocked ground */
 }
 
-/* 1 to 12, and 22 and 23 where 10 stands for version 1. */
+/* 1 to 11, and 22 and 23 where 10 stands for version 1. Rows that pass 11 join all nodes. */
 static uint8_t open_net(const uint8_t *s, size_t len, net *t, int64_t answer[8]) {
     if (len < 12) return refuse(answer, 1, 0);
     if (memcmp(s, "RTN", 3) != 0) return refuse(answer, 2, 0);
@@ -136,9 +137,6 @@ static uint8_t open_net(const uint8_t *s, size_t len, net *t, int64_t answer[8])
         if (x == y) return refuse_ring(t, r, answer);
         up[x] = y;
     }
-    for (size_t x = 1; x < n; x++)
-        if (top(up, (uint16_t)x) != top(up, 0)) return refuse(answer, 12, 0);
-    neighbours(t, n - 1);
     return 0;
 }
 
@@ -150,6 +148,14 @@ static uint8_t begin(const uint8_t *s, size_t len, const uint16_t *marks, size_t
     for (size_t r = 0; r + 1 < t->n; r++)
         if (marks[r] && t->weight[r] > 0) t->weight[r] = 0;
     return 0;
+}
+
+/* The same, for an operation that walks. */
+static uint8_t begin_walks(const uint8_t *s, size_t len, const uint16_t *marks, size_t marks_len, net *t,
+                           int64_t answer[8]) {
+    uint8_t number = begin(s, len, marks, marks_len, t, answer);
+    if (number == 0) neighbours(t, t->n - 1);
+    return number;
 }
 
 uint8_t scan_accept(const uint8_t *table, size_t table_len, int64_t answer[8]) {
@@ -165,7 +171,7 @@ uint8_t scan_pair(const uint8_t *table, size_t table_len, const uint16_t *marks,
                   uint16_t a, uint16_t b, int64_t answer[8]) {
     net t;
     paths p;
-    uint8_t number = begin(table, table_len, marks, marks_len, &t, answer);
+    uint8_t number = begin_walks(table, table_len, marks, marks_len, &t, answer);
     if (number) return number;
     if (a >= t.n || b >= t.n || a == b) return refuse(answer, 15, 0);
     walk(&t, a, &p);
@@ -178,7 +184,7 @@ uint8_t scan_heaviest(const uint8_t *table, size_t table_len, const uint16_t *ma
                       int64_t answer[8]) {
     net t;
     paths p;
-    uint8_t number = begin(table, table_len, marks, marks_len, &t, answer);
+    uint8_t number = begin_walks(table, table_len, marks, marks_len, &t, answer);
     if (number) return number;
     size_t low = 0, high = 0;
     int64_t length = 0, weight = INT64_MIN;
@@ -200,7 +206,7 @@ uint8_t scan_heaviest_exact(const uint8_t *table, size_t table_len, const uint16
                             int64_t answer[8]) {
     net t;
     paths p;
-    uint8_t number = begin(table, table_len, marks, marks_len, &t, answer);
+    uint8_t number = begin_walks(table, table_len, marks, marks_len, &t, answer);
     if (number) return number;
     size_t low = 0, high = 0;
     int64_t weight = INT64_MIN;
@@ -230,7 +236,7 @@ static uint8_t list(const uint8_t *table, size_t table_len, const uint16_t *mark
                     uint8_t *rows, size_t rows_len, int64_t answer[8]) {
     net t;
     paths p;
-    uint8_t number = begin(table, table_len, marks, marks_len, &t, answer);
+    uint8_t number = begin_walks(table, table_len, marks, marks_len, &t, answer);
     if (number) return number;
     if (rows_len < 16) return refuse(answer, 17, 0);
     size_t room = rows_len / 16, written = 0, left = 0;
@@ -314,7 +320,7 @@ uint8_t scan_window(const uint8_t *table, size_t table_len, const uint16_t *mark
     paths p;
     uint16_t count[MOST];
     window w = {count_low, count_high, sum_low, sum_high};
-    uint8_t number = begin(table, table_len, marks, marks_len, &t, answer);
+    uint8_t number = begin_walks(table, table_len, marks, marks_len, &t, answer);
     if (number) return number;
     if (no_window(w)) return refuse(answer, 30, 0);
     size_t low = 0;
@@ -340,7 +346,7 @@ uint8_t scan_window_list(const uint8_t *table, size_t table_len, const uint16_t 
     uint16_t count[MOST];
     uint32_t most_of[MOST], most = 1; /* of each lower node's pairs, 0 where an earlier node's have more; of all */
     window w = {count_low, count_high, sum_low, sum_high};
-    uint8_t number = begin(table, table_len, marks, marks_len, &t, answer);
+    uint8_t number = begin_walks(table, table_len, marks, marks_len, &t, answer);
     if (number) return number;
     if (no_window(w)) return refuse(answer, 30, 0);
     if (rows_len < 16) return refuse(answer, 17, 0);
@@ -368,7 +374,7 @@ uint8_t scan_claim(const uint8_t *table, size_t table_len, uint16_t *marks, size
                    uint16_t run, uint16_t a, uint16_t b, int64_t answer[8]) {
     net t;
     paths p;
-    uint8_t number = begin(table, table_len, marks, marks_len, &t, answer);
+    uint8_t number = begin_walks(table, table_len, marks, marks_len, &t, answer);
     if (number) return number;
     if (run == 0 || run > MOST_RUN) return refuse(answer, 14, 0);
     if (a >= t.n || b >= t.n || a == b) return refuse(answer, 15, 0);

@@ -47,7 +47,7 @@
 
    Refusal numbers, each given exactly when its condition holds and none before it in the operation's order does:
         1  under 12 bytes                         11  ring: the row whose ends earlier rows already join
-        2  mark not RTN                           12  no ring, yet some node isn't joined to node 0
+        2  mark not RTN                           12  unused: no function gives it
         3  version neither 1 nor 2                13  marks are not n - 1 in number
         4  n is 0 or above 4,096                  14  run number 0 or above 32,766
         5  reserved byte not 0                    15  a node not below n, or both the same
@@ -69,7 +69,7 @@
        29  no room for the output
        30  the lower count limit is 0, or above the upper one, or the lower sum above the upper one
        31  no pair in the window
-   Every function but hb_dimacs_read begins with 1 to 12; for rows of version 2, 22 and then 23 stand where 10 does. */
+   Every function but hb_dimacs_read begins with 1 to 11; for rows of version 2, 22 and then 23 stand where 10 does. */
 #ifndef HOURBENCH_H
 #define HOURBENCH_H
 
@@ -77,10 +77,10 @@
 #include <stdint.h>
 
 /* The library's version; CHANGES.md says how it moves. */
-#define HB_VERSION "1.7.0"
+#define HB_VERSION "1.7.1"
 #define HB_VERSION_MAJOR 1
 #define HB_VERSION_MINOR 7
-#define HB_VERSION_PATCH 0
+#define HB_VERSION_PATCH 1
 
 /* Of a mark: HB_RUN, the run by which its branch is held or spent, 0 where free; HB_SPENT, whether it is spent. */
 #define HB_RUN(mark) ((mark) & 0x7fffu)
@@ -155,14 +155,14 @@ uint8_t hb_convert(const uint8_t *table, size_t table_len, const uint16_t *marks
 
 /* A table of version 1 with this wire bound, out of two texts: 12 bytes and 12 a branch, into `table`; the bytes beyond
    stay unchanged. A row takes the order of its nodes and its place from its branch's first arc in `lengths`. Field: the
-   size. 25 to 29 in order, each over both texts before the next, and then 1 to 12 on the table made: 4 for a node count
+   size. 25 to 29 in order, each over both texts before the next, and then 1 to 11 on the table made: 4 for a node count
    0 or above 4,096, 6 where the branches are not n - 1. 25 to 29 name no row. */
 uint8_t hb_dimacs_read(const uint8_t *lengths, size_t lengths_len, const uint8_t *weights, size_t weights_len,
                        uint32_t bound, uint8_t *table, size_t table_len, int64_t *answer);
 
 /* The two texts of a table of version 1: the p line, then each row's arc and its opposite. The bytes beyond a text stay
    unchanged. Read back, the two texts, each in its size, give the same table. Fields: the size of the text with
-   lengths, that of the one with weights. In 1 to 12, 3 is any other version than 1; then 29, where there is no room for
+   lengths, that of the one with weights. In 1 to 11, 3 is any other version than 1; then 29, where there is no room for
    one of the texts: then nothing is written for the other either. */
 uint8_t hb_dimacs_write(const uint8_t *table, size_t table_len, uint8_t *lengths, size_t lengths_len,
                         uint8_t *weights, size_t weights_len, int64_t *answer);

@@ -184,7 +184,7 @@ pub fn examine(s: &[u8]) -> Result<(usize, u64, Vec<Row>), Refused> {
     Ok((n, bound, rows))
 }
 
-/// Then 11 and 12.
+/// Then 11. Number 12 is unused (document 02, Req 10): a table of which it could be said would stop the oracle here.
 pub fn accept(s: &[u8]) -> Result<Net, Refused> {
     let (n, bound, rows) = examine(s)?;
     // Nodes that the rows so far join have one label.
@@ -200,9 +200,7 @@ pub fn accept(s: &[u8]) -> Result<Net, Refused> {
             }
         }
     }
-    if label.iter().any(|l| *l != label[0]) {
-        return Err(refused(12, 0));
-    }
+    assert!(label.iter().all(|l| *l == label[0]), "n - 1 rows without a ring, and some node isn't joined to node 0");
     let mut beside = vec![Vec::new(); n];
     for (r, row) in rows.iter().enumerate() {
         beside[row.ends[0]].push((r, row.ends[1]));

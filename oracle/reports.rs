@@ -101,8 +101,8 @@ fn n5(bound: u32) -> Vec<u8> {
     version_1(5, bound, &N5)
 }
 
-/// Nets with rings (document 02, Req 03): of two rows, either way round; of three, with a branch apart; in a far part;
-/// of all rows, closed by the last; two rings, of which the first to close is told, once the longer and once the
+/// Nets with rings (document 02, Req 03): of two rows, either way round; of three, with a branch apart; apart from node
+/// 0; of all rows, closed by the last; two rings, of which the first to close is told, once the longer and once the
 /// shorter; and one with rows that hang from it, lead to it and follow it.
 fn rings() -> Vec<Vec<u8>> {
     let of = |ends: &[(u16, u16)]| {

@@ -148,7 +148,7 @@ fn text(net: &net::Net, number: fn(&net::Row) -> i64) -> Vec<u8> {
     text.into_bytes()
 }
 
-/// The two texts of a table: 1 to 12, where 3 is any other version than 1.
+/// The two texts of a table: 1 to 11, where 3 is any other version than 1.
 pub fn texts(t: &[u8]) -> Result<(Vec<u8>, Vec<u8>), Refused> {
     if t.len() >= 12 && t.starts_with(b"RTN") && t[3..5] != [1, 0] {
         return Err(refused(3));

@@ -1,5 +1,5 @@
 -- The row that a refusal names is below 4,096 and its ring has no more rows than that, so that both fit a signed
--- number: a refusal of 1 to 12 names a row of the table, or 0, and a ring has rows up to the row named alone; of an
+-- number: a refusal of 1 to 11 names a row of the table, or 0, and a ring has rows up to the row named alone; of an
 -- operation's own refusals, from 13 on, 24 alone names one, which has a mark.
 use Prim.Native.Nat.{ℕ, _≤_, _<_}
 use mathlib.Core.List.{List}
@@ -59,7 +59,7 @@ use Rattle.eight.specs.work.Room.{
 nowhere : Room 0 0
 nowhere = record { low = omega arith; few = omega arith }
 
--- a refusal of 1 to 12
+-- a refusal of 1 to 11
 told : (k r g : ℕ) → Told k r g → Room r g
 told k r g t = record { low = t .low; few = omega (arith, t .low, t .few) }
 
@@ -68,7 +68,7 @@ own : {A : Type 0} (C : A → Type 0) {no : A} {Ok : Type 0} {rest : A → Type 
     → (x : A) → Unless A no Ok rest x → C x
 own C n f x p = by-unless C n (λ _. f) p
 
--- what comes after 1 to 12 knows that an accepted net has 4,096 nodes at the most
+-- what comes after 1 to 11 knows that an accepted net has 4,096 nodes at the most
 few-nodes : {A : Type 0} (C : A → Type 0) (refuse : ℕ → ℕ → ℕ → A) (s : List ℕ) {rest : A → Type 0} {x : A}
     → ((k r g : ℕ) → Told k r g → C (refuse k r g)) → (nodesOf s ≤ 4096 → (y : A) → rest y → C y)
     → Begins A refuse s rest x → C x

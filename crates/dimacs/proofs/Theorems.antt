@@ -1,17 +1,16 @@
 -- Reading, in the document's words: 27 exactly if one of two texts that agree is faulty; 28, of two that are not,
--- exactly if they name different branches; and what a table that is given comes of. None of 1 to 12 on the table made
+-- exactly if they name different branches; and what a table that is given comes of. None of 1 to 11 on the table made
 -- is 27 or 28, so that a refusal's number tells where it comes from.
 use Prim.Native.Nat.{ℕ, _≤_, _<_}
-use mathlib.Core.Path.{_≡_, refl, sym, ap, _∙_}
+use mathlib.Core.Path.{_≡_, refl, ap}
 use mathlib.Core.Logic.{_⊎_, inl, inr}
 use mathlib.Core.List.{List, _++_}
 use native.Mathlib.Omega.{arith}
 use lib.ListN.{length, drop}
 use Rattle.table.specs.Refuse.{refused, passed}
-use Rattle.table.proofs.Refusals.{past, past-rows, settled, by-unless}
-use Rattle.table.proofs.Accepted.{Own, tested-past}
+use Rattle.table.proofs.Refusals.{settled, by-unless}
 use Rattle.tree.specs.Accept.{Begins}
-use Rattle.tree.proofs.Begins.{by-beginning}
+use Rattle.tree.proofs.Begins.{begins-other, by-beginning}
 use Rattle.roads.specs.Text.{Said, Lengths, Weights}
 use Rattle.roads.specs.Both.{Agree, unread, read}
 use Rattle.roads.proofs.Only.{says-only}
@@ -29,18 +28,12 @@ numberOf (Table size, new) = 0
 numberOf (Refused why, new) = why .number
 
 module _ (old : List ℕ) where
-  -- from 25 on no number is one of 1 to 12, 22 or 23
-  own-below : (j k : ℕ) → 25 ≤ k → Own j → j ≡ k → ⊥
-  own-below j k h (inl l) e = omega (arith, h, l, e)
-  own-below j k h (inr l) e = omega (arith, h, l .0, l .1, e)
-
+  -- none of 1 to 11, 22 and 23 is 25 or more
   made-otherwise : (k : ℕ) → 25 ≤ k → (t : List ℕ)
       → Begins (ReadAnswer × List ℕ) (readRefusal old) t (GivesTable old t) (readRefusal old k 0 0) → ⊥
   made-otherwise k h t p =
-      let a = tested-past (λ j r. readRefusal old j r 0) t (λ j r _ own e. own-below j k h own (ap numberOf e)) p in
-      let b = past-rows (λ g r _ _ e. omega (arith, h, ap numberOf e)) (a .1) in
-      let c = past (λ e. omega (arith, h, ap numberOf e)) (b .1) in
-      omega (arith, h, ap numberOf (c .1))
+      let e = begins-other (readRefusal old) t numberOf (λ j r g. refl) (omega (arith, h)) (inr (omega (arith, h))) p in
+      omega (arith, h, ap numberOf e)
 
   -- the table made gives none but 29 of these
   table-otherwise : (a b : Said) (bound k : ℕ) → 25 ≤ k → k < 29 → (o : ReadAnswer × List ℕ)

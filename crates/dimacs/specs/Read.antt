@@ -1,5 +1,5 @@
 -- Reading: a table of version 1 made of two road-graph texts, one with lengths and one with weights, the wire bound
--- being passed beside. Refusals 25 to 29 in order, each over both texts before the next, and then 1 to 12 on the table
+-- being passed beside. Refusals 25 to 29 in order, each over both texts before the next, and then 1 to 11 on the table
 -- made.
 use Prim.Native.Nat.{ℕ, _≤_}
 use mathlib.Core.Path.{_≡_}
@@ -25,7 +25,7 @@ readRefusal old k r g = (readRefused k r g, old)
 abbrev pub GivesTable : List ℕ → List ℕ → ReadAnswer × List ℕ → Type 0
 GivesTable old t o = o ≡ (Table (length t), t ++ drop (length t) old)
 
--- the table that two texts make: 29, and then 1 to 12 on it
+-- the table that two texts make: 29, and then 1 to 11 on it
 pub record MakesTable (a b : Said) (bound : ℕ) (old : List ℕ) (o : ReadAnswer × List ℕ) : Type 0 where
   pub table : List ℕ
   pub made : TableOf a b bound table

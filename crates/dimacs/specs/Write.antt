@@ -36,7 +36,7 @@ pub record GivesTexts (s : List ℕ) (n : ℕ) (lengths weights : List ℕ) (o :
       ((length long ≤ length lengths) × (length heavy ≤ length weights))
       (λ x. x ≡ (Texts (length long) (length heavy), textIn long lengths, textIn heavy weights)) o
 
--- 1 to 12, where 3 is any other version than 1; then the texts
+-- 1 to 11, where 3 is any other version than 1; then the texts
 abbrev pub WriteOf : List ℕ → List ℕ → List ℕ → Wrote → Type 0
 WriteOf s lengths weights =
     Unless Wrote (writeRefusal lengths weights 1 0 0) (12 ≤ length s)

@@ -48,7 +48,7 @@ fn too_many(nodes: u16) -> u8
     6
 }
 
-// 1 to 12 on a table made; one that is accepted goes into the lent bytes.
+// 1 to 11 on a table made; one that is accepted goes into the lent bytes.
 fn give(made: &[u8], table: &mut [u8]) -> ReadAnswer
     requires { ⌜ length (now made) ≤ length (now table) ⌝ }
     ensures { λ o. ⌜ Begins _ (readRefusal (now (table .entry))) (now (made .entry))

@@ -1,4 +1,4 @@
--- The operations heaviest and heaviest_exact: refusals 1 to 12, then 13, then 16 or 21; then the heaviest run.
+-- The operations heaviest and heaviest_exact: refusals 1 to 11, then 13, then 16 or 21; then the heaviest run.
 use Prim.Native.Nat.{ℕ, _-_, _≤_}
 use mathlib.Core.Path.{_≡_}
 use mathlib.Core.List.{List}

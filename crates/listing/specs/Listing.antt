@@ -1,4 +1,4 @@
--- The operations listing and listing_exact: refusals 1 to 12, then 13 and 17; then the page. A call leaves an answer
+-- The operations listing and listing_exact: refusals 1 to 11, then 13 and 17; then the page. A call leaves an answer
 -- and the lent bytes.
 use Prim.Native.Nat.{ℕ, _-_, _≤_}
 use mathlib.Core.Path.{_≡_}

@@ -1,5 +1,5 @@
 -- The bridge: where other rows join the ends of a row, some row closes a ring with the rows before it. By the cut of a
--- walk at its highest row.
+-- walk at its highest row, from which also: one row more joins two nodes only through its ends.
 use Prim.Native.Nat.{ℕ, zero, suc, _<_}
 use mathlib.Core.Path.{_≡_, refl, sym, _∙_}
 use mathlib.Core.Logic.{_⊎_, inl, inr}
@@ -28,6 +28,21 @@ module _ (u v : ℕ → ℕ) where
       pick (yes q) (inl t) =
           inr (a, c, rw q at (ends-left u v e), rw q at (ends-left u v (ends-flip u v e)), joined-refl u v a, t)
       pick (yes q) (inr t) = inr (a, t .1, rw q at (ends-left u v e), t .3, joined-refl u v a, t .5)
+
+  -- one row more joins x and y only through its ends
+  pub through : {r x y : ℕ} → Joined u v (First (suc r)) x y
+      → Joined u v (First r) x y
+      ⊎ ((a : ℕ) × (b : ℕ) × End u v r a × End u v r b × Joined u v (First r) x a × Joined u v (First r) b y)
+  through {r} w = pick (walk-cut r (w .2))
+    where
+      low : {a b : ℕ} → Joined u v (But (First (suc r)) r) a b → Joined u v (First r) a b
+      low = joined-mono u v (λ s h. omega (arith, h .0, h .1))
+
+      pick : {x y : ℕ} → Cut (First (suc r)) r x y
+          → Joined u v (First r) x y
+          ⊎ ((a : ℕ) × (b : ℕ) × End u v r a × End u v r b × Joined u v (First r) x a × Joined u v (First r) b y)
+      pick (inl t) = inl (low t)
+      pick (inr c) = inr (c .0, c .1, c .2, c .3, low (c .4), low (c .5))
 
   -- The ends of row r are joined by other rows: then some row closes a ring with rows before it
   pub bridge : (k r : ℕ) → r < k → Joined u v (But (First k) r) (u r) (v r) → Closes u v k

@@ -1,12 +1,11 @@
 -- Counting: the numbers below n, a list without one member, and the laws of Count (one count at the most, the same for
--- the same property, the sum over two parts).
+-- the same property, the sum over two parts, one more).
 use Prim.Native.Nat.{ℕ, zero, suc, _+_, _≤_, _<_}
 use mathlib.Core.Path.{_≡_, refl, sym, ap, _∙_}
-use mathlib.Core.Logic.{_⊎_, inl, inr, _≢_, ⊎-elim}
+use mathlib.Core.Logic.{_⊎_, _≢_, ⊎-elim}
 use mathlib.Core.List.{List, [], _∷_, _++_}
 use native.Mathlib.Omega.{arith}
 use native.Mathlib.Nat.{not-suc-le-zero}
-use native.Mathlib.Numerals.{one-add}
 use native.Mathlib.Decide.{ℕ-discrete}
 use lib.ListN.{length, length-append}
 use Rattle.arrays.specs.Members.{In, at, past, Distinct}
@@ -91,6 +90,15 @@ count-one {P} x h n = record {
   long = refl;
 }
 
+-- where there is one, any two are equal
+pub count-lone : {P : ℕ → Type 0} {x y : ℕ} → Count P 1 → P x → P y → x ≡ y
+count-lone {x} {y} c p q = lone (c .list) (c .long) (c .all x p) (c .all y q)
+  where
+    lone : (l : List ℕ) → length l ≡ 1 → In x l → In y l → x ≡ y
+    lone [] e i j = absurd (not-nil i)
+    lone (z ∷ []) e i j = in-one i ∙ sym (in-one j)
+    lone (z ∷ (w ∷ l)) e i j = absurd (omega arith)
+
 pub count-add : {P Q R : ℕ → Type 0} {a b : ℕ} → Count P a → Count Q b → ((x : ℕ) → P x → Q x → ⊥)
     → ((x : ℕ) → R x → P x ⊎ Q x) → ((x : ℕ) → P x → R x) → ((x : ℕ) → Q x → R x) → Count R (a + b)
 count-add p q n f g h = record {
@@ -117,6 +125,25 @@ count-some x h p = some (p .list) (p .all x h) (p .long)
     some [] i e = absurd (not-nil i)
     some (y ∷ l) i e = omega arith
 
+-- one more: z, which has not been counted
+pub count-more : {P Q : ℕ → Type 0} {k : ℕ} (z : ℕ) → Q z → ¬ P z → ((x : ℕ) → Q x → x ≢ z → P x)
+    → ((x : ℕ) → P x → Q x) → Count P k → Count Q (suc k)
+count-more {P} {Q} z q n f g c = record {
+  list = z ∷ c .list;
+  once = (λ i. n (c .only z i), c .once);
+  only = only;
+  all = λ x h. pick x h (ℕ-discrete x z);
+  long = ap suc (c .long);
+}
+  where
+    only : (x : ℕ) → In x (z ∷ c .list) → Q x
+    only x (at e) = rw e q
+    only x (past i) = g x (c .only x i)
+
+    pick : (x : ℕ) → Q x → Dec (x ≡ z) → In x (z ∷ c .list)
+    pick x h (yes e) = at e
+    pick x h (no m) = past (c .all x (f x h m))
+
 -- where the property is decided
 unfoldable pub count-dec : {P : ℕ → Type 0} (n : ℕ) → ((x : ℕ) → Dec (P x)) → (k : ℕ) × Count (λ x. (x < n) × P x) k
 count-dec zero d = (0, count-none (λ x h. omega (arith, h .0)))
@@ -132,26 +159,15 @@ count-dec {P} (suc n) d = pick (d n) (count-dec n d)
         off x h (yes e) = absurd (m (rw e at (h .1)))
         off x h (no q) = omega (arith, h .0)
     pick (yes p) t = (
-      1 + t .0,
-      count-add {P = λ x. x ≡ n} (count-one n refl (λ y e. e)) (t .1) (λ x e h. omega (arith, h .0))
-          (λ x h. which x h (ℕ-discrete x n)) (λ x e. (omega arith, rw e p)) lower,
+      suc (t .0),
+      count-more n (omega arith, p) (λ h. omega (arith, h .0)) (λ x h m. (omega (arith, h .0), h .1)) lower (t .1),
     )
-      where
-        which : (x : ℕ) → (x < suc n) × P x → Dec (x ≡ n) → (x ≡ n) ⊎ ((x < n) × P x)
-        which x h (yes e) = inl e
-        which x h (no q) = inr (omega (arith, h .0), h .1)
 
 -- all numbers below n
 pub count-all : (n : ℕ) → Count (λ x. x < n) n
 count-all zero = count-none (λ x h. omega arith)
 count-all (suc n) =
-    rw (one-add n)
-    at (count-add {P = λ x. x ≡ n} {R = λ x. x < suc n} (count-one n refl (λ y e. e)) (count-all n)
-    (λ x e h. omega arith) (λ x h. pick x h (ℕ-discrete x n)) (λ x e. omega arith) (λ x h. omega arith))
-  where
-    pick : (x : ℕ) → x < suc n → Dec (x ≡ n) → (x ≡ n) ⊎ (x < n)
-    pick x h (yes e) = inl e
-    pick x h (no m) = inr (omega arith)
+    count-more n (omega arith) (λ h. omega arith) (λ x h m. omega arith) (λ x h. omega arith) (count-all n)
 
 -- as many as there are numbers below n: then all of them
 pub count-full : {P : ℕ → Type 0} {k : ℕ} (n : ℕ) → ((x : ℕ) → P x → x < n) → Count P k → n ≤ k → (x : ℕ) → x < n → P x

@@ -1,7 +1,9 @@
--- Walks one after the other; joined is an equivalence, and more rows join no less.
-use Prim.Native.Nat.{ℕ}
+-- Walks one after the other; joined is an equivalence, more rows join no less, and no rows join nothing.
+use Prim.Native.Nat.{ℕ, suc}
+use mathlib.Core.Path.{_≡_, refl}
 use mathlib.Core.List.{List, [], _∷_, _++_}
-use Rattle.net.specs.Graph.{Ends, Walk, stop, go, Joined}
+use native.Mathlib.Omega.{arith}
+use Rattle.net.specs.Graph.{First, Ends, Walk, stop, go, Joined}
 use Rattle.net.proofs.Rows.{ends-flip}
 
 module _ (u v : ℕ → ℕ) where
@@ -39,3 +41,14 @@ module _ (u v : ℕ → ℕ) where
 
     pub joined-mono : {a b : ℕ} → Joined u v P a b → Joined u v Q a b
     joined-mono w = (_, _, walk-mono (w .2))
+
+  pub joined-up : {k a b : ℕ} → Joined u v (First k) a b → Joined u v (First (suc k)) a b
+  joined-up = joined-mono (λ r h. omega arith)
+
+  -- joined by no rows is equal
+  pub alone : {a b : ℕ} {P : ℕ → Type 0} → ((r : ℕ) → ¬ P r) → Joined u v P a b → a ≡ b
+  alone n w = go-on (w .2) n
+    where
+      go-on : {a b : ℕ} {P : ℕ → Type 0} {rs ns : List ℕ} → Walk u v P a rs ns b → ((r : ℕ) → ¬ P r) → a ≡ b
+      go-on stop n = refl
+      go-on (go h e w) n = absurd (n _ h)

@@ -11,7 +11,7 @@ use mathlib.Core.Bool.{Bool, true, false, not, _&&_}
 use lib.Dec.{T, eqb, eqb-refl, T-not}
 use Rattle.net.specs.Graph.{First, Ends, Walk, stop, go, Joined}
 use Rattle.net.specs.work.Forest.{Forest}
-use Rattle.net.proofs.Joined.{joined-refl, joined-step, joined-trans, joined-sym, joined-mono}
+use Rattle.net.proofs.Joined.{joined-refl, joined-step, joined-trans, joined-sym, joined-up}
 
 -- two tests, both passed
 pub both : (a b : Bool) → T (a && b) → T a × T b
@@ -74,25 +74,23 @@ module _ (u v : ℕ → ℕ) where
   pub joined-label : {k a b : ℕ} → Joined u v (First k) a b → label k a ≡ label k b
   joined-label {k} w = joined-constant (label k) (label-ends k) w
 
-  pub label-joined : (k a b : ℕ) → label k a ≡ label k b → Joined u v (First k) a b
+  label-joined : (k a b : ℕ) → label k a ≡ label k b → Joined u v (First k) a b
   unfolding label
   label-joined zero a b e = rw e (joined-refl u v b)
   label-joined (suc k) a b e =
       pick (ℕ-discrete (label k a) (label k (u k))) (ℕ-discrete (label k b) (label k (u k))) (label-joined k)
     where
-      up : {x y : ℕ} → Joined u v (First k) x y → Joined u v (First (suc k)) x y
-      up = joined-mono u v (λ s h. omega arith)
-
       cross : {x y : ℕ} → Joined u v (First k) x (u k) → Joined u v (First k) (v k) y → Joined u v (First (suc k)) x y
-      cross w t = joined-trans u v (up w) (joined-step u v (omega arith) (inl (refl, refl)) (up t))
+      cross w t =
+          joined-trans u v (joined-up u v w) (joined-step u v (omega arith) (inl (refl, refl)) (joined-up u v t))
 
       pick : Dec (label k a ≡ label k (u k)) → Dec (label k b ≡ label k (u k))
           → ((x y : ℕ) → label k x ≡ label k y → Joined u v (First k) x y) → Joined u v (First (suc k)) a b
-      pick (yes p) (yes q) ih = up (ih a b (cc))
+      pick (yes p) (yes q) ih = joined-up u v (ih a b (cc))
       pick (yes p) (no q) ih = cross (ih a (u k) p) (ih (v k) b (sym (relabel-hit _ _ _ p) ∙ e ∙ relabel-miss _ _ _ q))
       pick (no p) (yes q) ih =
           joined-sym u v (cross (ih b (u k) q) (ih (v k) a (sym (relabel-hit _ _ _ q) ∙ sym e ∙ relabel-miss _ _ _ p)))
-      pick (no p) (no q) ih = up (ih a b (sym (relabel-miss _ _ _ p) ∙ e ∙ relabel-miss _ _ _ q))
+      pick (no p) (no q) ih = joined-up u v (ih a b (sym (relabel-miss _ _ _ p) ∙ e ∙ relabel-miss _ _ _ q))
 
   pub joined? : (k a b : ℕ) → Dec (Joined u v (First k) a b)
   joined? k a b = map-dec (label-joined k a b) joined-label (ℕ-discrete (label k a) (label k b))

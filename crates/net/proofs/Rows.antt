@@ -1,8 +1,10 @@
--- The two ends of a row, the rows but one, and a row that closes a ring.
-use Prim.Native.Nat.{ℕ, _<_}
+-- The two ends of a row, the rows but one, a row that closes a ring, and that fewer rows fit too.
+use Prim.Native.Nat.{ℕ, _≤_, _<_}
 use mathlib.Core.Path.{_≡_}
 use mathlib.Core.Logic.{_⊎_, inl, inr, _≢_}
+use native.Mathlib.Omega.{arith}
 use Rattle.net.specs.Graph.{Ends, RingAt}
+use Rattle.net.specs.work.Rows.{RowsFit}
 
 -- the rows of P other than r
 abbrev pub But : (ℕ → Type 0) → ℕ → ℕ → Type 0
@@ -36,3 +38,6 @@ module _ (u v : ℕ → ℕ) where
   ends-one (inl e) (inr f) = inr (cc)
   ends-one (inr e) (inl f) = inr (cc)
   ends-one (inr e) (inr f) = inl (cc)
+
+pub fit-less : {us vs : ℕ → ℕ} {k m n : ℕ} → m ≤ k → RowsFit us vs k n → RowsFit us vs m n
+fit-less l f = record { first = λ r h. f .first r (omega arith); second = λ r h. f .second r (omega arith) }

@@ -1,4 +1,4 @@
--- The operation pair: refusals 1 to 12, then 13 and 15; then length, weight and hops of the path from one node to the
+-- The operation pair: refusals 1 to 11, then 13 and 15; then length, weight and hops of the path from one node to the
 -- other, in either order. A path longer than B is shown.
 use Prim.Native.Nat.{ℕ, _-_}
 use mathlib.Core.Path.{_≡_}

@@ -1,10 +1,9 @@
 -- The order of a walk: each node once, parents before children.
 use Prim.Native.Nat.{ℕ, zero, suc, _/_, _≤_, _<_}
-use mathlib.Core.Path.{_≡_, refl, sym, ap, _∙_}
-use mathlib.Core.Logic.{_⊎_, inl, inr, _≢_}
+use mathlib.Core.Path.{_≡_, sym, ap, _∙_}
+use mathlib.Core.Logic.{inl, inr, _≢_}
 use mathlib.Core.List.{List}
 use native.Mathlib.Omega.{arith}
-use native.Mathlib.Numerals.{one-add}
 use native.Mathlib.Decide.{ℕ-discrete}
 use Rattle.arrays.specs.At.{at}
 use Rattle.net.specs.Graph.{First, Ends, Walk, stop, go, Joined}
@@ -13,7 +12,6 @@ use Rattle.net.specs.Count.{Count}
 use Rattle.net.specs.work.Rooted.{Rooted}
 use Rattle.reach.specs.work.Walked.{Reached, Walked}
 use Rattle.reach.specs.work.Grown.{Grown, Ordered}
-use Rattle.reach.specs.work.Queue.{Reaches}
 use Rattle.net.specs.work.Rows.{RowsFit}
 use Rattle.net.proofs.Rows.{ends-flip}
 use Rattle.net.proofs.Joined.{joined-trans, joined-sym}
@@ -21,10 +19,8 @@ use Rattle.net.proofs.Counts.{
   count-unique,
   count-same,
   count-none,
-  count-one,
-  count-add,
+  count-more,
   count-all,
-  count-full,
 }
 use Rattle.net.proofs.Above.{Tree}
 use Rattle.reach.proofs.Chained.{from-fits, half-ends}
@@ -78,49 +74,27 @@ module _ (us vs : ℕ → ℕ) (rows n m : ℕ) (parent half order place : List 
   placed : (i : ℕ) → i ≤ m → Count (λ x. (x < n) × J x × (at place x < i)) i
   placed zero l = count-none (λ x h. omega (arith, h .2))
   placed (suc i) l =
-      rw (one-add i)
-      at (count-add {P = λ x. x ≡ at order i} {R = λ x. (x < n) × J x × (at place x < suc i)}
-      (count-one (at order i) refl (λ y e. e)) (placed i (omega arith)) apart
-      (λ x h. pick x h (ℕ-discrete (at place x) i)) last (λ x h. (h .0, h .1, omega (arith, h .2))))
+      count-more (at order i)
+      (node i (omega arith), w .joined i (omega arith), omega (arith, w .back i (omega arith)))
+      (λ h. omega (arith, h .2, w .back i (omega arith))) rest
+      (λ x h. (h .0, h .1, omega (arith, h .2))) (placed i (omega arith))
     where
-      apart : (x : ℕ) → x ≡ at order i → (x < n) × J x × (at place x < i) → ⊥
-      apart x e h = omega (arith, h .2, w .back i (omega arith), ap (at place) e)
-
-      last : (x : ℕ) → x ≡ at order i → (x < n) × J x × (at place x < suc i)
-      last x e = (
-        rw e (node i (omega arith)),
-        rw e (w .joined i (omega arith)),
-        omega (arith, w .back i (omega arith), ap (at place) e),
-      )
-
-      pick : (x : ℕ) → (x < n) × J x × (at place x < suc i) → Dec (at place x ≡ i)
-          → (x ≡ at order i) ⊎ ((x < n) × J x × (at place x < i))
-      pick x h (yes e) = inl (sym (w .listed x (omega (arith, h .0)) (h .1) .1) ∙ ap (at order) e)
-      pick x h (no q) = inr (h .0, h .1, omega (arith, h .2))
+      rest : (x : ℕ) → (x < n) × J x × (at place x < suc i) → x ≢ at order i → (x < n) × J x × (at place x < i)
+      rest x h m = (h .0, h .1, omega (arith, h .2, elsewhere))
+        where
+          elsewhere : at place x ≢ i
+          elsewhere e = m (sym (w .listed x (omega (arith, h .0)) (h .1) .1) ∙ ap (at order) e)
 
   -- m is the number of nodes that are joined to node 0
-  pub reached-count : Count (λ x. (x < n) × J x) m
+  reached-count : Count (λ x. (x < n) × J x) m
   reached-count =
       count-same (λ x h. (h .0, h .1)) (λ x h. (h .0, h .1, w .listed x (omega (arith, h .0)) (h .1) .0))
       (placed m (omega arith))
 
-  -- all n nodes are joined exactly if no fewer than n were reached
+  -- where all n nodes are joined, so many were reached
   pub reached-all : ((x : ℕ) → x < n → J x) → m ≡ n
   reached-all all =
       count-unique (count-same {Q = λ x. x < n} (λ x h. h .0) (λ x h. (h, all x h)) reached-count) (count-all n)
-
-  pub all-joined : n ≤ m → (x : ℕ) → x < n → J x
-  all-joined l x b = count-full n (λ x h. h .0) reached-count l x b .1
-
--- so any two walks reach as many
-pub reaches-only : (us vs : ℕ → ℕ) (rows m m′ : ℕ) → RowsFit us vs rows 4096 → Reaches us vs rows m
-    → Reaches us vs rows m′ → m ≡ m′
-reaches-only us vs rows m m′ fit w w′ =
-    count-unique
-    (reached-count us vs rows 4096 m (w .parent) (w .half) (w .order) (w .place) (omega arith) (omega arith) fit
-    (w .walked))
-    (reached-count us vs rows 4096 m′ (w′ .parent) (w′ .half) (w′ .order) (w′ .place) (omega arith) (omega arith) fit
-    (w′ .walked))
 
 module _ (us vs : ℕ → ℕ) (rows n : ℕ) (parent half order place : List ℕ) (small : n ≤ 4096) (some : 1 ≤ n)
     (fit : RowsFit us vs rows n) (all : (x : ℕ) → x < n → Joined us vs (First rows) 0 x)

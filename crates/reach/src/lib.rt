@@ -9,7 +9,7 @@ ghost use Rattle.reach.specs.work.Half.{from};
 ghost use Rattle.reach.specs.work.Walked.{WalkedFrom};
 ghost use Rattle.net.specs.work.Rows.{Readable};
 ghost use Rattle.reach.specs.work.Chains.{Chained};
-ghost use Rattle.reach.specs.work.Queue.{Outer, Visits, Reaches};
+ghost use Rattle.reach.specs.work.Queue.{Outer, Visits};
 ghost use Rattle.reach.specs.work.Placing.{Once, Placed, Places};
 use net::first_end;
 use net::second_end;
@@ -135,7 +135,8 @@ fn places(order: &[u16; 4096], n: usize, place: &mut [u16; 4096])
     }
 }
 
-// The chains, the walk over them, and the places.
+// Between crates: the chains, the walk over them, and the places. The answer, how many nodes were reached, is there for
+// the promise.
 pub fn walk_from(
     s: &[u8],
     rows: usize,
@@ -155,20 +156,4 @@ pub fn walk_from(
     let n = reach(s, rows, start, place, &next, parent, half, order);
     places(order, n, place);
     n
-}
-
-// Between crates: how many nodes are joined to node 0. The arrays are lent for the walk, and nothing is promised of
-// them.
-pub fn reached(
-    s: &[u8],
-    rows: usize,
-    parent: &mut [u16; 4096],
-    half: &mut [u16; 4096],
-    order: &mut [u16; 4096],
-    place: &mut [u16; 4096],
-) -> usize
-    requires { ⌜ Readable (now s) rows ⌝ }
-    ensures { λ r. ⌜ Reaches (firstEnd (now (s .entry))) (secondEnd (now (s .entry))) rows r ⌝ }
-{
-    walk_from(s, rows, 0, parent, half, order, place)
 }

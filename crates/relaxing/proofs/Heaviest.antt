@@ -1,6 +1,6 @@
 -- The heaviest of some pairs beside the heaviest of others. Where each of the first has one among the second that
 -- weighs no less, a run found stays found and weighs no less. Where there was none one may turn up; under other marks
--- it does not, since the same pairs are within the length test. 1 to 12 and 13 refuse both alike.
+-- it does not, since the same pairs are within the length test. 1 to 11 and 13 refuse both alike.
 use Prim.Native.Nat.{ℕ}
 use mathlib.Core.Path.{_≡_, refl, sym}
 use mathlib.Core.List.{List}

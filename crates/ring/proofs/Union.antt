@@ -11,13 +11,13 @@ use lib.ListN.{length, set, length-set}
 use lib.Seq.{getD-set-same, getD-set-other}
 use Rattle.arrays.specs.At.{at}
 use Rattle.table.specs.Refuse.{Only}
-use Rattle.net.specs.Graph.{First, Walk, stop, go, Joined}
+use Rattle.net.specs.Graph.{First, Joined}
 use Rattle.net.specs.work.Forest.{Forest}
 use Rattle.net.specs.work.Rows.{RowsFit}
 use Rattle.ring.specs.work.Union.{Climb, here, step, Rises, Root, FirstRing, Linked, Numbered, Union}
-use Rattle.net.proofs.Rows.{But, End}
-use Rattle.net.proofs.Joined.{joined-refl, joined-step, joined-trans, joined-sym, joined-mono}
-use Rattle.net.proofs.Bridge.{Cut, walk-cut}
+use Rattle.net.proofs.Rows.{End}
+use Rattle.net.proofs.Joined.{alone, joined-refl, joined-step, joined-trans, joined-sym, joined-up}
+use Rattle.net.proofs.Bridge.{through}
 
 pub climb-more : {up : List ℕ} {x y t : ℕ} → Climb up x y → at up y ≡ t → Climb up x t
 climb-more here e = step e here
@@ -34,33 +34,6 @@ pub record Seen (us vs : ℕ → ℕ) (rows : ℕ) (r : ℕ) (up rank : List ℕ
   pub sound : (x : ℕ) → x < 4096 → Joined us vs (First r) x (at up x)
   pub whole : (x y : ℕ) → x < 4096 → y < 4096 → at up x ≡ x → at up y ≡ y → Joined us vs (First r) x y → x ≡ y
   pub forest : Forest us vs r
-
-module _ (u v : ℕ → ℕ) where
-  -- joined by no rows is equal
-  pub alone : {a b : ℕ} {P : ℕ → Type 0} → ((r : ℕ) → ¬ P r) → Joined u v P a b → a ≡ b
-  alone n w = go-on (w .2) n
-    where
-      go-on : {a b : ℕ} {P : ℕ → Type 0} {rs ns : List ℕ} → Walk u v P a rs ns b → ((r : ℕ) → ¬ P r) → a ≡ b
-      go-on stop n = refl
-      go-on (go h e w) n = absurd (n _ h)
-
-  -- one row more joins x and y only through its ends
-  pub through : {r x y : ℕ} → Joined u v (First (suc r)) x y
-      → Joined u v (First r) x y
-      ⊎ ((a : ℕ) × (b : ℕ) × End u v r a × End u v r b × Joined u v (First r) x a × Joined u v (First r) b y)
-  through {r} w = pick (walk-cut u v r (w .2))
-    where
-      low : {a b : ℕ} → Joined u v (But (First (suc r)) r) a b → Joined u v (First r) a b
-      low = joined-mono u v (λ s h. omega (arith, h .0, h .1))
-
-      pick : {x y : ℕ} → Cut u v (First (suc r)) r x y
-          → Joined u v (First r) x y
-          ⊎ ((a : ℕ) × (b : ℕ) × End u v r a × End u v r b × Joined u v (First r) x a × Joined u v (First r) b y)
-      pick (inl t) = inl (low t)
-      pick (inr c) = inr (c .0, c .1, c .2, c .3, low (c .4), low (c .5))
-
-  pub joined-up : {r a b : ℕ} → Joined u v (First r) a b → Joined u v (First (suc r)) a b
-  joined-up = joined-mono u v (λ s h. omega arith)
 
 pub climb-joined : {us vs : ℕ → ℕ} {rows : ℕ} {up rank : List ℕ} {r x t : ℕ} → Seen us vs rows r up rank → x < 4096
     → Climb up x t → Joined us vs (First r) x t

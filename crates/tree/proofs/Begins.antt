@@ -1,20 +1,19 @@
--- Acceptance: from the ring test and the walk to refusals 11 and 12; what an accepted table has; how an operation that
--- begins with 1 to 12 hands a refusal on or goes on, seen through a function or said otherwise; that two such promises
--- give equal outcomes where what follows does, so that each allows one and refuses what acceptance does; and what the
--- numbers of such a refusal are. What 11 and 12 are is taken apart here, a table's own refusals in table's Accepted,
--- and nowhere above.
+-- Acceptance: from the ring test to refusal 11; what an accepted table has; how an operation that begins with 1 to 11
+-- hands a refusal on or goes on, seen through a function or said otherwise; that two such promises give equal outcomes
+-- where what follows does, so that each allows one and refuses what acceptance does; and what the numbers of such a
+-- refusal are. What 11 is is taken apart here, a table's own refusals in table's Accepted, and nowhere above.
 use Prim.Native.Nat.{ℕ, _+_, _-_, _≤_, _<_}
 use mathlib.Core.Path.{_≡_, refl, sym, ap, _∙_}
-use mathlib.Core.Logic.{inl, inr, _≢_}
+use mathlib.Core.Logic.{_⊎_, inl, inr, _≢_}
 use mathlib.Core.List.{List}
 use native.Mathlib.Omega.{arith}
-use Rattle.table.specs.Refuse.{refused, passed, bad, fine, Only}
+use Rattle.table.specs.Refuse.{bad, fine, Only}
 use Rattle.table.specs.Header.{nodesOf, boundOf}
 use Rattle.table.specs.Opens.{openingRefusal, Examines}
 use Rattle.table.specs.declared.Refusal as why
 use Rattle.table.specs.declared.Opening.{Opening}
 use Rattle.table.specs.declared.Opening.the-variants as opening
-use Rattle.table.proofs.Refusals.{past, past-rows, settled, unless-both, unless-map, first-bad-map, by-unless, by-rows}
+use Rattle.table.proofs.Refusals.{past-rows, first-bad-map, by-rows}
 use Rattle.table.proofs.Accepted.{GoodTable, Own, accepted, tested-past, tested-map, tested-rest, by-tested}
 use Rattle.table.proofs.Accepted as table
 use Rattle.table.proofs.Only.{tested-both}
@@ -25,13 +24,13 @@ use Rattle.net.specs.Ring.{RingRows}
 use Rattle.tree.specs.Accept.{Rings, Begins, acceptanceRefusal, Accepts}
 use Rattle.net.specs.work.Rows.{Readable, Fitting, Closing}
 use Rattle.ring.specs.work.Union.{FirstRing}
-use Rattle.reach.specs.work.Queue.{Reaches}
 use Rattle.tree.specs.work.Why.{whyOf}
 use Rattle.tree.specs.declared.Refusal.{Refusal}
 use Rattle.tree.specs.declared.Acceptance.{Acceptance}
 use Rattle.tree.specs.declared.Acceptance.the-variants.{Accepted, Refused}
-use Rattle.reach.proofs.Grown.{reached-all, all-joined}
+use Rattle.net.proofs.Rows.{fit-less}
 use Rattle.net.proofs.RingRows.{row-open, rows-open, open-rows, rings-both, rings-settled, most-rows}
+use Rattle.tree.proofs.Groups.{all-joined}
 
 -- an accepted net's two numbers, and that it is no refusal
 abbrev nodesIn : Acceptance → ℕ
@@ -74,20 +73,13 @@ fitting-readable f =
 
 -- fewer rows are readable too
 pub readable-less : {s : List ℕ} {k m : ℕ} → m ≤ k → Readable s k → Readable s m
-readable-less l r = record {
-  few = omega (arith, r .few);
-  stands = λ i h. r .stands i (omega arith);
-  fit = record { first = λ i h. r .fit .first i (omega arith); second = λ i h. r .fit .second i (omega arith) };
-}
+readable-less l r =
+    record { few = omega (arith, r .few); stands = λ i h. r .stands i (omega arith); fit = fit-less l (r .fit) }
 
 -- the row that the ring test found closes a ring
 pub found-closing : {s : List ℕ} {n r : ℕ} → Fitting s n → FirstRing (firstEnd s) (secondEnd s) (n - 1) r → r < n - 1
     → Closing s r
 found-closing f g l = record { readable = readable-less (omega arith) (fitting-readable f); joins = g .closes l }
-
-good-rows : (s : List ℕ) (n r : ℕ) → FirstRing (firstEnd s) (secondEnd s) (n - 1) r → n - 1 ≤ r → (i : ℕ) → i < n - 1
-    → RingRows (firstEnd s) (secondEnd s) i 0
-good-rows s n r f l i h = open-rows (firstEnd s) (secondEnd s) (f .forest) i (omega arith)
 
 module _ (s : List ℕ) (n : ℕ) {rest : Acceptance → Type 0} where
   pub rings-bad : (r g : ℕ) → FirstRing (firstEnd s) (secondEnd s) (n - 1) r → r < n - 1
@@ -97,27 +89,11 @@ module _ (s : List ℕ) (n : ℕ) {rest : Acceptance → Type 0} where
       bad r g l (open-rows (firstEnd s) (secondEnd s) (f .forest)) p
       (λ e. row-open (firstEnd s) (secondEnd s) (rw e at p) (f .closes l))
 
-  module _ (r : ℕ) (f : FirstRing (firstEnd s) (secondEnd s) (n - 1) r) (l : n - 1 ≤ r) (g : Fitting s n) (m : ℕ)
-      (w : Reaches (firstEnd s) (secondEnd s) (n - 1) m) where
-    pub rings-apart : m < n → Rings Acceptance acceptanceRefusal s n rest (acceptanceRefusal 12 0 0)
-    rings-apart h =
-        fine (good-rows s n r f l)
-        (refused
-        (λ all. omega (
-          arith,
-          reached-all (firstEnd s) (secondEnd s) (n - 1) n m (w .parent) (w .half) (w .order) (w .place) (g .few)
-              (g .some) (g .fit) (w .walked) all,
-        )))
+  pub rings-none : (r : ℕ) → FirstRing (firstEnd s) (secondEnd s) (n - 1) r → n - 1 ≤ r → {x : Acceptance} → rest x
+      → Rings Acceptance acceptanceRefusal s n rest x
+  rings-none r f l p = fine (λ i h. open-rows (firstEnd s) (secondEnd s) (f .forest) i (omega arith)) p
 
-    pub rings-whole : n ≤ m → {x : Acceptance} → rest x → Rings Acceptance acceptanceRefusal s n rest x
-    rings-whole h p =
-        fine (good-rows s n r f l)
-        (passed
-        (all-joined (firstEnd s) (secondEnd s) (n - 1) n m (w .parent) (w .half) (w .order) (w .place) (g .few)
-        (g .some) (g .fit) (w .walked) h)
-        p)
-
--- a table's own refusal stays one, and an examined table goes on to 11 and 12
+-- a table's own refusal stays one, and an examined table goes on to 11
 pub refused-stays : (s : List ℕ) (w : why.Refusal) → Examines s (opening.Refused w)
     → Accepts s (acceptanceRefusal (w .number) (w .row) 0)
 refused-stays s w p = tested-map handed openingRefusal s (λ g e. absurd (table.nothing-found e)) p
@@ -132,11 +108,14 @@ examined-goes s n b o p q =
     let a = accepted s n b p in
     table.passed-on (λ k r. acceptanceRefusal k r 0) s n b p (rw (a .nodes, a .bound) at q)
 
--- A table of which 1 to 12 refuse nothing: it is a net
+-- A table of which 1 to 11 refuse nothing: it is a net, since its rows join all nodes
 pub record Sound (s : List ℕ) : Type 0 where
   pub good : GoodTable s
   pub forest : Forest (firstEnd s) (secondEnd s) (nodesOf s - 1)
-  pub whole : Whole s (nodesOf s)
+
+pub sound-joined : {s : List ℕ} → Sound s → Whole s (nodesOf s)
+sound-joined {s} t =
+    all-joined (firstEnd s) (secondEnd s) (nodesOf s) (t .forest) (fitting s (nodesOf s) (boundOf s) (t .good) .fit)
 
 pub sound-net : {s : List ℕ} → Sound s → Net s (nodesOf s)
 unfolding firstEnd secondEnd lengthOf weightOf
@@ -152,34 +131,49 @@ sound-net {s} t =
       short = λ r l. a .rows r (omega arith) .long;
       within = λ r l. a .rows r (omega arith) .weight-within;
       forest = t .forest;
-      joined = t .whole;
+      joined = sound-joined t;
     }
 
--- How an operation that begins with 1 to 12 goes on
-module _ {A : Type 0} (refuse : ℕ → ℕ → ℕ → A) (s : List ℕ) {rest : A → Type 0} {x : A} where
-  -- an outcome that is no refusal comes of such a table
-  begins-sound : ((k r g : ℕ) → refuse k r g ≡ x → ⊥) → Begins A refuse s rest x → Sound s × rest x
-  begins-sound plain p =
-      let t = tested-past (λ k r. refuse k r 0) s (λ k r _ _. plain k r 0) p in
-      let o = past-rows (λ g r _ _. plain 11 r g) (t .1) in
-      let w = past (plain 12 0 0) (o .1) in
-      (record { good = t .0; forest = rows-open (firstEnd s) (secondEnd s) (o .0); whole = w .0 }, w .1)
+-- the numbers of 1 to 11, 22 and 23 among them: a table's own, and 11
+abbrev Given : ℕ → Type 0
+Given k = Own k ⊎ (k ≡ 11)
 
+beyond : {k : ℕ} → 11 < k → (k < 22) ⊎ (23 < k) → Given k → ⊥
+beyond l m (inl (inl own)) = omega (arith, l, own)
+beyond l (inl m) (inl (inr own)) = omega (arith, m, own .0)
+beyond l (inr m) (inl (inr own)) = omega (arith, m, own .1)
+beyond l m (inr e) = omega (arith, l, e)
+
+-- How an operation that begins with 1 to 11 goes on
+module _ {A : Type 0} (refuse : ℕ → ℕ → ℕ → A) (s : List ℕ) {rest : A → Type 0} {x : A} where
+  -- an outcome that is none of these refusals comes of such a table
+  begins-sound : ((k r g : ℕ) → Given k → refuse k r g ≡ x → ⊥) → Begins A refuse s rest x → Sound s × rest x
+  begins-sound other p =
+      let t = tested-past (λ k r. refuse k r 0) s (λ k r _ own. other k r 0 (inl own)) p in
+      let o = past-rows (λ g r _ _. other 11 r g (inr refl)) (t .1) in
+      (record { good = t .0; forest = rows-open (firstEnd s) (secondEnd s) (o .0) }, o .1)
+
+  -- one that is no refusal,
   pub begins-past : ((k r g : ℕ) → refuse k r g ≡ x → ⊥) → Begins A refuse s rest x → Net s (nodesOf s) × rest x
-  begins-past plain p = let t = begins-sound plain p in (sound-net (t .0), t .1)
+  begins-past plain p = let t = begins-sound (λ k r g _. plain k r g) p in (sound-net (t .0), t .1)
+
+  -- or one with another number
+  pub begins-other : (number : A → ℕ) → ((k r g : ℕ) → number (refuse k r g) ≡ k) → 11 < number x
+      → (number x < 22) ⊎ (23 < number x) → Begins A refuse s rest x → rest x
+  begins-other number is l m p =
+      begins-sound (λ k r g given e. beyond l m (rw (sym (is k r g) ∙ ap number e) at given)) p .1
 
   -- of such a table the outcome is as the rest says, both ways
   pub sound-on : Sound s → rest x → Begins A refuse s rest x
   sound-on t r =
       table.passed-on (λ k r. refuse k r 0) s (nodesOf s) (boundOf s) (t .good)
-      (fine (open-rows (firstEnd s) (secondEnd s) (t .forest)) (passed (t .whole) r))
+      (fine (open-rows (firstEnd s) (secondEnd s) (t .forest)) r)
 
   sound-rest : Sound s → Begins A refuse s rest x → rest x
   sound-rest t p =
-      settled (t .whole)
-      (rings-settled (firstEnd s) (secondEnd s) (t .forest) (tested-rest (λ k r. refuse k r 0) s (t .good) p))
+      rings-settled (firstEnd s) (secondEnd s) (t .forest) (tested-rest (λ k r. refuse k r 0) s (t .good) p)
 
--- a refusal of 1 to 12 stays one when outcomes are seen through a function; what follows is asked of an accepted net
+-- a refusal of 1 to 11 stays one when outcomes are seen through a function; what follows is asked of an accepted net
 -- alone, and may be said otherwise of it
 pub begins-map : {A B : Type 0} (f : A → B) (refuse : ℕ → ℕ → ℕ → A) (s : List ℕ) {rest : A → Type 0}
     {rest′ : B → Type 0} {x : A} → (Net s (nodesOf s) → rest x → rest′ (f x)) → Begins A refuse s rest x
@@ -187,16 +181,14 @@ pub begins-map : {A B : Type 0} (f : A → B) (refuse : ℕ → ℕ → ℕ → 
 begins-map f refuse s g p =
     tested-map f (λ k r. refuse k r 0) s
     (λ t. first-bad-map f
-    (λ rings. unless-map f
-    (λ whole. g
-    (sound-net (record { good = t; forest = rows-open (firstEnd s) (secondEnd s) rings; whole = whole })))))
+    (λ rings. g (sound-net (record { good = t; forest = rows-open (firstEnd s) (secondEnd s) rings }))))
     p
 
 -- What an accepted table has
 accept-sound : (s : List ℕ) (n b : ℕ) → Accepts s (Accepted n b)
     → Sound s × (Accepted n b ≡ Accepted (nodesOf s) (boundOf s))
 accept-sound s n b p =
-    begins-sound acceptanceRefusal s (λ k r g. nothing-found) p
+    begins-sound acceptanceRefusal s (λ k r g _. nothing-found) p
 
 pub record Admitted (s : List ℕ) (n b : ℕ) : Type 0 where
   pub net : Net s n
@@ -235,7 +227,7 @@ pub begins-both : {A : Type 0} (R : A → A → Type 0) (refuse : ℕ → ℕ �
     → (x y : A) → Begins A refuse s rest x → Begins A refuse s rest′ y → R x y
 begins-both {A} R refuse s {rest} {rest′} self o x y p q =
     tested-both R (λ k r. refuse k r 0) (λ k r. self k r 0) s
-    (rings-both (firstEnd s) (secondEnd s) R (λ g r. self 11 r g) (unless-both R (self 12 0 0) (λ _. of-net))) x y
+    (rings-both (firstEnd s) (secondEnd s) R (λ g r. self 11 r g) of-net) x y
     (begins-map (λ z. z) refuse s (λ n r. (n, r)) p) q
   where
     of-net : (x y : A) → Net s (nodesOf s) × rest x → rest′ y → R x y
@@ -266,7 +258,7 @@ refused-alike refuse s {x = x} k r g p q =
 pub accept-only : (s : List ℕ) → Only (Accepts s)
 accept-only s = begins-only acceptanceRefusal s (λ x y p q. p ∙ sym q)
 
--- What the three numbers of a refusal of 1 to 12 are: a row below 4,096, or none; a ring of no more rows than there are
+-- What the three numbers of a refusal of 1 to 11 are: a row below 4,096, or none; a ring of no more rows than there are
 -- up to the row named, and of 11 alone
 pub record Told (k r g : ℕ) : Type 0 where
   pub low : r < 4096
@@ -279,8 +271,7 @@ pub by-beginning : {A : Type 0} (C : A → Type 0) (refuse : ℕ → ℕ → ℕ
     → C x
 by-beginning C refuse s h f p =
     by-tested C (λ k r. refuse k r 0) s (λ k r l. h k r 0 (named k r l))
-    (λ n _. by-rows C (λ g r l q. h 11 r g (ringed n l (most-rows _ _ q)))
-    (λ _. by-unless C (h 12 0 0 (named 12 0 (omega arith))) (λ _. f)))
+    (λ n _. by-rows C (λ g r l q. h 11 r g (ringed n l (most-rows _ _ q))) f)
     p
   where
     named : (k r : ℕ) → r < 4096 → Told k r 0
@@ -303,8 +294,7 @@ module _ (s : List ℕ) where
       → Closer s (whyOf x .row) (whyOf x .ring)
   eleven x e t (bad r k l before is not) =
       record { good = t; below = l; before = rows-open (firstEnd s) (secondEnd s) before; number = is; some = not }
-  eleven x e t (fine all (refused c)) = absurd (omega arith)
-  eleven x e t (fine all (passed w p)) = absurd (omega (arith, ap (λ (o : Acceptance). whyOf o .number) p))
+  eleven x e t (fine all p) = absurd (omega (arith, ap (λ (o : Acceptance). whyOf o .number) p))
 
   -- 11 is none of the table's own numbers
   other : (k : ℕ) → Own k → k ≢ 11

@@ -1,4 +1,4 @@
--- Two tables equal but for the bytes of B begin alike: 1 to 12 refuse the one exactly as the other.
+-- Two tables equal but for the bytes of B begin alike: 1 to 11 refuse the one exactly as the other.
 use Prim.Native.Nat.{ℕ}
 use mathlib.Core.List.{List}
 use Rattle.table.specs.Bound.{SameButBound}

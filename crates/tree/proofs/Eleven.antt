@@ -1,12 +1,11 @@
 -- Refusal 11 of a table whose header, size and rows are good: it is given exactly if a ring is in the net. From a ring
 -- some row closes one, and so there is a first; and where 11 is given, the row named closes a ring with those before
 -- it.
-use Prim.Native.Nat.{ℕ, zero, suc, _+_, _-_, _≤_, _<_}
+use Prim.Native.Nat.{ℕ, _+_, _-_, _≤_, _<_}
 use mathlib.Core.Path.{_≡_}
-use mathlib.Core.Logic.{_⊎_, inl, inr, _≢_, _↔_}
+use mathlib.Core.Logic.{inl, inr, _≢_, _↔_}
 use mathlib.Core.List.{List}
 use native.Mathlib.Omega.{arith}
-use native.Mathlib.Decide.{ℕ-discrete}
 use lib.ListN.{length}
 use Rattle.table.specs.Header.{nodesOf, boundOf}
 use Rattle.table.proofs.Accepted.{GoodTable, accepted, passed-on}
@@ -22,31 +21,11 @@ use Rattle.net.proofs.RingExactly.{ring-closes, closes-ring}
 use Rattle.net.proofs.RingRows.{row-closed, row-number, most-rows, ring-of, two-rows, repeated}
 use Rattle.net.proofs.OneRing.{one-ring}
 use Rattle.tree.proofs.Begins.{rings-bad, closer}
+use Rattle.tree.proofs.Least.{NoneOrLeast, none-or-least}
 
-ends-differ : (s : List ℕ) → GoodTable s → (r : ℕ) → r < nodesOf s - 1 → firstEnd s r ≢ secondEnd s r
+pub ends-differ : (s : List ℕ) → GoodTable s → (r : ℕ) → r < nodesOf s - 1 → firstEnd s r ≢ secondEnd s r
 unfolding firstEnd secondEnd
 ends-differ s g r l = accepted s (nodesOf s) (boundOf s) g .rows r (omega arith) .apart
-
--- where some row closes a ring, there is a first one
-first-of : (s : List ℕ) (k : ℕ)
-    → Forest (firstEnd s) (secondEnd s) k
-    ⊎ ((r : ℕ) × (r < k) × Forest (firstEnd s) (secondEnd s) r × RingAt (firstEnd s) (secondEnd s) r)
-first-of s zero = inl (λ r h. absurd (omega arith))
-first-of s (suc k) = pick (first-of s k) (joined? (firstEnd s) (secondEnd s) k (firstEnd s k) (secondEnd s k))
-  where
-    F : ℕ → Type 0
-    F = Forest (firstEnd s) (secondEnd s)
-
-    pick : F k ⊎ ((r : ℕ) × (r < k) × F r × RingAt (firstEnd s) (secondEnd s) r)
-        → Dec (RingAt (firstEnd s) (secondEnd s) k)
-        → F (suc k) ⊎ ((r : ℕ) × (r < suc k) × F r × RingAt (firstEnd s) (secondEnd s) r)
-    pick (inr t) d = inr (t .0, omega (arith, t .1), t .2, t .3)
-    pick (inl f) (yes j) = inr (k, omega arith, f, j)
-    pick (inl f) (no n) = inl (λ r h. last r h (ℕ-discrete r k))
-      where
-        last : (r : ℕ) → r < suc k → Dec (r ≡ k) → ¬ RingAt (firstEnd s) (secondEnd s) r
-        last r h (yes e) = rw e n
-        last r h (no m) = f r (omega arith)
 
 -- a good table is refused by 11 at the first row that closes a ring
 pub first-refused : (s : List ℕ) → GoodTable s → (r g : ℕ) → r < nodesOf s - 1 → Forest (firstEnd s) (secondEnd s) r
@@ -59,17 +38,20 @@ first-refused s t r g l f p z =
 
 pub ring-refused : (s : List ℕ) → GoodTable s → Ring (firstEnd s) (secondEnd s) (nodesOf s - 1)
     → (r : ℕ) × (g : ℕ) × Accepts s (acceptanceRefusal 11 r g)
-ring-refused s g o = pick (first-of s (nodesOf s - 1)) (ring-closes (firstEnd s) (secondEnd s) o)
+ring-refused s g o =
+    pick
+    (none-or-least (RingAt (firstEnd s) (secondEnd s))
+    (λ r. joined? (firstEnd s) (secondEnd s) r (firstEnd s r) (secondEnd s r)) (nodesOf s - 1))
+    (ring-closes (firstEnd s) (secondEnd s) o)
   where
-    pick : Forest (firstEnd s) (secondEnd s) (nodesOf s - 1)
-        ⊎ ((r : ℕ) × (r < nodesOf s - 1) × Forest (firstEnd s) (secondEnd s) r × RingAt (firstEnd s) (secondEnd s) r)
+    pick : NoneOrLeast (RingAt (firstEnd s) (secondEnd s)) (nodesOf s - 1)
         → Closes (firstEnd s) (secondEnd s) (nodesOf s - 1) → (r : ℕ) × (g : ℕ) × Accepts s (acceptanceRefusal 11 r g)
     pick (inl f) c = absurd (f (c .0) (c .1) (c .2))
     pick (inr t) c =
-        let n = row-number (firstEnd s) (secondEnd s) (t .3) in (
+        let n = row-number (firstEnd s) (secondEnd s) (t .2) in (
           t .0,
           n .0,
-          first-refused s g (t .0) (n .0) (t .1) (t .2) (n .1) (n .2),
+          first-refused s g (t .0) (n .0) (t .1) (t .3) (n .1) (n .2),
         )
 
 module _ (s : List ℕ) where

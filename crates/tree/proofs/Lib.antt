@@ -3,5 +3,8 @@ pub mod Around
 pub mod Begins
 pub mod Bound
 pub mod Eleven
+pub mod Groups
+pub mod Least
 pub mod Theorems
+pub mod Twelve
 pub mod Meeting

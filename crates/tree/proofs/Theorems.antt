@@ -7,13 +7,15 @@ use mathlib.Core.List.{List, _∷_}
 use lib.ListN.{length}
 use Rattle.arrays.specs.At.{at}
 use Rattle.table.specs.Header.{nodesOf}
+use Rattle.table.specs.Refuse.{Unless}
 use Rattle.table.proofs.Accepted.{GoodTable}
 use Rattle.arrays.specs.Members.{In, Distinct}
 use Rattle.net.specs.Graph.{First, Ends, Walk, Ring}
 use Rattle.net.specs.Path.{Path}
-use Rattle.net.specs.Net.{firstEnd, secondEnd}
+use Rattle.net.specs.Net.{firstEnd, secondEnd, Whole}
 use Rattle.net.specs.work.Net.{Net}
 use Rattle.tree.specs.Accept.{acceptanceRefusal, Begins, Accepts}
+use Rattle.tree.specs.Groups.{Groups}
 use Rattle.tree.specs.work.Why.{whyOf}
 use Rattle.tree.specs.declared.Acceptance.{Acceptance}
 use Rattle.net.specs.work.Rooted.{Above}
@@ -24,6 +26,7 @@ use Rattle.tree.proofs.Begins.{by-beginning}
 use Rattle.tree.proofs.Begins as begins
 use Rattle.tree.proofs.Eleven.{ring-refused, refused-ring}
 use Rattle.tree.proofs.Eleven as eleven
+use Rattle.tree.proofs.Twelve as twelve
 use Rattle.reach.proofs.NetWalk.{net-simple, climb-path}
 
 -- Demand 2. A table with good header, size and rows is refused by 11 exactly if a ring is in it.
@@ -61,6 +64,32 @@ ring-alone s k r g p =
 pub refused-alike : {A : Type 0} (refuse : ℕ → ℕ → ℕ → A) (s : List ℕ) {rest : A → Type 0} {x : A} (k r g : ℕ)
     → Accepts s (acceptanceRefusal k r g) → Begins A refuse s rest x → x ≡ refuse k r g
 refused-alike = begins.refused-alike
+
+-- Req 10. Of a table with good header, size and rows: the first k rows, where no ring is in them, leave the n nodes in
+-- n − k groups,
+pub groups-left : (s : List ℕ) → GoodTable s → (k : ℕ) → k ≤ nodesOf s - 1 → ¬ Ring (firstEnd s) (secondEnd s) k
+    → Groups (firstEnd s) (secondEnd s) k (nodesOf s) (nodesOf s - k)
+groups-left = twelve.groups-left
+
+-- so n − 1 rows without a ring join every node to node 0.
+pub all-joined : (s : List ℕ) → GoodTable s → ¬ Ring (firstEnd s) (secondEnd s) (nodesOf s - 1) → Whole s (nodesOf s)
+all-joined = twelve.all-joined
+
+-- Therefore no answer moved when 12 went: a promise that begins with 1 to 11, with 12 tested before what follows, as it
+-- was, allows the same outcomes.
+pub as-with-twelve : {A : Type 0} (refuse : ℕ → ℕ → ℕ → A) (s : List ℕ) {rest : A → Type 0} {x : A}
+    → Begins A refuse s rest x ↔ Begins A refuse s (Unless A (refuse 12 0 0) (Whole s (nodesOf s)) rest) x
+as-with-twelve = twelve.as-with-twelve
+
+-- And 12 is given nowhere: not by acceptance,
+pub never-twelve : (s : List ℕ) (r g : ℕ) → Accepts s (acceptanceRefusal 12 r g) → ⊥
+never-twelve = twelve.never-twelve
+
+-- nor, where what follows 1 to 11 does not give it, by any operation that begins with them.
+pub twelve-unused : {A : Type 0} (number : A → ℕ) (refuse : ℕ → ℕ → ℕ → A) → ((k r g : ℕ) → number (refuse k r g) ≡ k)
+    → (s : List ℕ) {rest : A → Type 0} → ((x : A) → rest x → number x ≢ 12) → (x : A) → Begins A refuse s rest x
+    → number x ≢ 12
+twelve-unused = twelve.unused
 
 -- An accepted net has no ring.
 pub ringless : {s : List ℕ} {n : ℕ} → Net s n → ¬ Ring (firstEnd s) (secondEnd s) (n - 1)

@@ -1,4 +1,4 @@
-// Acceptance, refusals 1 to 12 in order; the walk of an accepted net; and where two climbs to its root meet.
+// Acceptance, refusals 1 to 11 in order; the walk of an accepted net; and where two climbs to its root meet.
 mod round;
 mod two_climbs;
 
@@ -26,7 +26,7 @@ pub enum Acceptance {
     Refused(Refusal),
 }
 
-// Tests 1 to 12, in order.
+// Tests 1 to 11, in order.
 pub fn accept(s: &[u8]) -> Acceptance
     ensures { λ r. ⌜ Accepts (now (s .entry)) r ⌝ }
 {
@@ -59,7 +59,7 @@ pub fn accept_in(
     }
 }
 
-// Tests 11 and 12, of a table that has passed the others.
+// Test 11, of a table that has passed the others. Rows that pass it join all nodes (`all-joined`, proofs/Theorems).
 fn rings(
     s: &[u8],
     nodes: u16,
@@ -73,9 +73,8 @@ fn rings(
     ensures { λ r. ⌜ Rings Acceptance acceptanceRefusal (now (s .entry)) nodes
         (λ x. x ≡ Acceptance.Accepted nodes bound) r ⌝ }
 {
-    let n = arrays::wide(nodes);
-    let rows = n - 1;
-    // Here parent has each node's climb to its root, and half the ranks; the walks below fill all four anew.
+    let rows = arrays::wide(nodes) - 1;
+    // Here parent has each node's climb to its root, and half the ranks; what counts a ring's rows fills all four anew.
     let r = ring::first_ring(s, rows, parent, half);
     if r < rows {
         let g = round::count_round(s, r, parent, half, order, place);
@@ -83,13 +82,6 @@ fn rings(
             number: 11,
             row: r,
             ring: g,
-        });
-    }
-    if reach::reached(s, rows, parent, half, order, place) < n {
-        return Acceptance::Refused(Refusal {
-            number: 12,
-            row: 0,
-            ring: 0, // 11 alone has one
         });
     }
     Acceptance::Accepted { nodes, bound }

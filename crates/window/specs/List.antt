@@ -1,4 +1,4 @@
--- The operation window_list: refusals 1 to 12, then 13, 30 and 17; then a page of the pairs in the window that have the
+-- The operation window_list: refusals 1 to 11, then 13, 30 and 17; then a page of the pairs in the window that have the
 -- greatest branch count of all. A call leaves an answer and the lent bytes.
 use Prim.Native.Nat.{ℕ, _-_, _≤_}
 use mathlib.Core.Path.{_≡_}

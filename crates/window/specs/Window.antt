@@ -1,4 +1,4 @@
--- The operation window: refusals 1 to 12, then 13, 30 and 31; then, of the pairs whose branch count lies between two
+-- The operation window: refusals 1 to 11, then 13, 30 and 31; then, of the pairs whose branch count lies between two
 -- positive limits and whose weight between two sums, the one with the most branches, and among equals the earlier pair.
 use Prim.Native.Nat.{ℕ, _-_, _≤_, _<_}
 use mathlib.Core.Path.{_≡_}

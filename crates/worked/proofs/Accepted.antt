@@ -1,5 +1,5 @@
--- A table that passes these tests is accepted: good header, good rows, no ring, and every node joined to node 0. Then
--- an operation's promise is what follows refusals 1 to 12.
+-- A table that passes these tests is accepted: good header, good rows, no ring. Then an operation's promise is what
+-- follows refusals 1 to 11.
 use Prim.Native.Nat.{ℕ, _-_, _*_, _≤_, _<_}
 use mathlib.Core.Path.{_≡_}
 use mathlib.Core.Bool.{Bool, not, _||_}
@@ -15,10 +15,11 @@ use Rattle.table.specs.Row.{rowAt, kindAt, countAt}
 use Rattle.table.specs.Examine.{RowNumber}
 use Rattle.table.proofs.Accepted.{Headed, GoodTable, good-table, good-number}
 use Rattle.net.specs.work.Forest.{Forest}
-use Rattle.net.specs.Net.{firstEnd, secondEnd, Whole}
+use Rattle.net.specs.Net.{firstEnd, secondEnd}
+use Rattle.net.specs.work.Net.{Net}
 use Rattle.tree.specs.Accept.{Begins}
-use Rattle.tree.proofs.Begins.{sound-on}
-use Rattle.net.proofs.Labels.{label, label-joined, grows, grows-forest}
+use Rattle.tree.proofs.Begins.{Sound, sound-net, sound-on}
+use Rattle.net.proofs.Labels.{grows, grows-forest}
 use Rattle.worked.proofs.Tests.{either, every, every-passed, below, below-all}
 
 module _ (s : List ℕ) where
@@ -87,12 +88,8 @@ module _ (s : List ℕ) where
     good =
         good-table (headed (every-passed good-tests t .0)) (λ i b. row-good i (good-row i b))
 
-  abbrev joins : ℕ → Bool
-  joins x =
-      eqb (label (firstEnd s) (secondEnd s) (nodesOf s - 1) 0) (label (firstEnd s) (secondEnd s) (nodesOf s - 1) x)
-
   abbrev tests : List Bool
-  tests = good? ∷ grows (firstEnd s) (secondEnd s) (nodesOf s - 1) ∷ below joins (nodesOf s) ∷ []
+  tests = good? ∷ grows (firstEnd s) (secondEnd s) (nodesOf s - 1) ∷ []
 
   unfoldable pub accepted? : Bool
   accepted? = every tests
@@ -102,19 +99,12 @@ module _ (s : List ℕ) where
     unfolding accepted?
     forest = grows-forest (firstEnd s) (secondEnd s) (nodesOf s - 1) (every-passed tests t .1 .0)
 
-    pub whole : Whole s (nodesOf s)
+    sound : Sound s
     unfolding accepted?
-    whole x b =
-        label-joined (firstEnd s) (secondEnd s) (nodesOf s - 1) 0 x
-        (eqb→eq _ _ (below-all joins (nodesOf s) (every-passed tests t .1 .1 .0) x b))
+    sound = record { good = good (every-passed tests t .0); forest = forest }
 
-    pub ends-fit : (r : ℕ) → r < nodesOf s - 1 → (firstEnd s r < nodesOf s) × (secondEnd s r < nodesOf s)
-    unfolding accepted? firstEnd secondEnd
-    ends-fit r b =
-        let p = every-passed (row-tests r) (good-row (every-passed tests t .0) r b) in
-        (ltb→lt _ _ (p .0), ltb→lt _ _ (p .1 .0))
+    pub net : Net s (nodesOf s)
+    net = sound-net sound
 
     pub begins : {A : Type 0} (refuse : ℕ → ℕ → ℕ → A) {rest : A → Type 0} {x : A} → rest x → Begins A refuse s rest x
-    unfolding accepted?
-    begins refuse r =
-        sound-on refuse s (record { good = good (every-passed tests t .0); forest = forest; whole = whole }) r
+    begins refuse r = sound-on refuse s sound r

@@ -20,7 +20,7 @@ use Rattle.spines.specs.work.Parents.{Child}
 use Rattle.spines.proofs.Head.{head-some}
 use Rattle.spines.proofs.Net.{head-net}
 use Rattle.worked.proofs.Tests.{either, every, every-passed, below, below-all}
-use Rattle.worked.proofs.Accepted.{accepted?, forest, whole, ends-fit}
+use Rattle.worked.proofs.Accepted.{accepted?, net}
 
 pub self-less : (x : ℕ) → x < suc x
 self-less x = omega arith
@@ -95,11 +95,12 @@ module _ (up by : ℕ → ℕ) (s : List ℕ) where
   module _ (ok : T (accepted? s)) (t : T hangs?) where
     pub rooted : Rooted (firstEnd s) (secondEnd s) (nodesOf s - 1) (nodesOf s) par by (λ x. x)
     rooted =
+        let n = net s ok in
         record {
-          forest = forest s ok;
-          fits = ends-fit s ok;
+          forest = n .forest;
+          fits = λ r b. (n .first r b, n .second r b);
           all = λ a b l k. joined-trans (firstEnd s) (secondEnd s)
-              (joined-sym (firstEnd s) (secondEnd s) (whole s ok a l)) (whole s ok b k);
+              (joined-sym (firstEnd s) (secondEnd s) (n .joined a l)) (n .joined b k);
           row-fits = λ x b z. ltb→lt _ _ (every-passed (hang-tests x) (hangs t x b z) .0);
           par-fits = λ x b z. hung .fits x b z;
           ends = λ x b z. ends x (every-passed (hang-tests x) (hangs t x b z) .1 .0);

@@ -1,4 +1,4 @@
--- All that an accepted net has: what the functions that go on past refusal 12 ask.
+-- All that an accepted net has: what the functions that go on past refusal 11 ask.
 use Prim.Native.Nat.{ℕ, _-_, _≤_, _<_}
 use mathlib.Core.Logic.{_≢_}
 use mathlib.Core.List.{List}

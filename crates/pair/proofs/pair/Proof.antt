@@ -1,4 +1,4 @@
--- `pair` meets its contract: a refusal of 1 to 12 is handed on, and an accepted net goes on to 13, 15 and the path.
+-- `pair` meets its contract: a refusal of 1 to 11 is handed on, and an accepted net goes on to 13, 15 and the path.
 use Rattle.tree.proofs.Begins.{admitted, refused-on, passed-on}
 use Rattle.pair.specs.Pair.{pairRefusal}
 use borrow.Author.Needs.{needs}

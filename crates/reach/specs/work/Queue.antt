@@ -8,7 +8,7 @@ use Rattle.arrays.specs.At.{at}
 use Rattle.arrays.specs.Members.{In}
 use Rattle.net.specs.Net.{firstEnd, secondEnd}
 use Rattle.reach.specs.work.Half.{from}
-use Rattle.reach.specs.work.Walked.{Reached, High, Falls, Walked}
+use Rattle.reach.specs.work.Walked.{Reached, High, Falls}
 use Rattle.net.specs.work.Rows.{Readable}
 use Rattle.reach.specs.work.Chains.{Chained}
 use Rattle.reach.specs.work.Placing.{Placed}
@@ -45,11 +45,3 @@ pub record Visits (start : ℕ) (s : List ℕ) (rows : ℕ) (first next : List �
   pub chains : Chained (firstEnd s) (secondEnd s) rows (2 * rows) first next
   pub ahead : head < tail
   pub outer : Placed (Outer start (firstEnd s) (secondEnd s) rows head tail parent half order)
-
--- m nodes are joined to node 0, as some walk found
-pub record Reaches (us vs : ℕ → ℕ) (rows m : ℕ) : Type 0 where
-  pub parent : List ℕ
-  pub half : List ℕ
-  pub order : List ℕ
-  pub place : List ℕ
-  pub walked : Walked us vs rows m parent half order place

@@ -1,4 +1,4 @@
--- `heads` meets its contract: a refusal of 1 to 12 is handed on, and an accepted net goes on to 20 and the heads.
+-- `heads` meets its contract: a refusal of 1 to 11 is handed on, and an accepted net goes on to 20 and the heads.
 use Rattle.tree.proofs.Begins.{admitted, refused-on, passed-on}
 use Rattle.spines.specs.Heads.{headsRefusal}
 use borrow.Author.Needs.{needs}

@@ -1,4 +1,4 @@
--- `accept_in` meets its contract: a table's own refusal is handed on, and an examined table goes on to 11 and 12.
+-- `accept_in` meets its contract: a table's own refusal is handed on, and an examined table goes on to 11.
 use Rattle.tree.proofs.Begins.{fitting, refused-stays, examined-goes}
 use borrow.Author.Needs.{needs}
 use Rattle.tree.proofs.accept_in.Statement.{statement}

@@ -1,8 +1,8 @@
 -- `rings` meets its contract: a row found is the first closing one, and its ring has as many rows as were counted; none
--- found, fewer than n nodes reached means that one is apart.
+-- found, no row closes one.
 use mathlib.Core.Path.{refl}
 use native.Mathlib.Omega.{arith}
-use Rattle.tree.proofs.Begins.{fitting-readable, found-closing, rings-bad, rings-apart, rings-whole}
+use Rattle.tree.proofs.Begins.{fitting-readable, found-closing, rings-bad, rings-none}
 use borrow.Author.Needs.{needs}
 use Rattle.tree.proofs.rings.Statement.{statement}
 use Rattle.tree.proofs.rings.Tie as tie
@@ -30,36 +30,12 @@ returns c =
     let e = c .before .before .before .before .before .before .before .before .before .wide .ensures .0 in
     rings-bad _ _ _ _ (rw e at first-ring-ensures) (omega (arith, e)) (c .count-round .ensures)
 
-reached-requires : tie.Need-reached-requires
-reached-requires c κs =
-    let pre = c .before .before .before .before .before .before .before .before .before .before .pre in
-    rw (c .before .before .before .before .before .before .before .before .wide .ensures .0) (fitting-readable pre)
-
 returns-2 : tie.Need-returns-2
 returns-2 c =
-    let first-ring-ensures = c .before .before .before .before .before .before .before .first-ring .ensures in
-    let pre = c .before .before .before .before .before .before .before .before .before .before .before .before .pre in
-    let e = c .before .before .before .before .before .before .before .before .before .before .wide .ensures .0 in
-    rings-apart _ _ _ (rw e at first-ring-ensures) (omega (arith, e)) pre _ (rw e at (c .before .reached .ensures))
-    (omega (arith, e))
-
-returns-3 : tie.Need-returns-3
-returns-3 c =
-    let first-ring-ensures = c .before .before .before .before .before .before .before .first-ring .ensures in
-    let pre = c .before .before .before .before .before .before .before .before .before .before .before .before .pre in
-    let e = c .before .before .before .before .before .before .before .before .before .before .wide .ensures .0 in
-    rings-whole _ _ _ (rw e at first-ring-ensures) (omega (arith, e)) pre _ (rw e at (c .before .reached .ensures))
-    (omega (arith, e)) refl
+    let e = c .before .before .before .before .wide .ensures .0 in
+    rings-none _ _ _ (rw e at (c .before .first-ring .ensures)) (omega (arith, e)) refl
 
 pub rings-spec : {M : Type 1} → statement M
 rings-spec =
     tie.close
-    (tie.spec
-    wide-requires
-    sub-rows
-    first-ring-requires
-    count-round-requires
-    returns
-    reached-requires
-    returns-2
-    returns-3)
+    (tie.spec wide-requires sub-rows first-ring-requires count-round-requires returns returns-2)

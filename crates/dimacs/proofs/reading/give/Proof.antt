@@ -1,4 +1,4 @@
--- `give`: a refusal of 1 to 12 is handed on, and nothing is written; a table that is accepted is copied to the front of
+-- `give`: a refusal of 1 to 11 is handed on, and nothing is written; a table that is accepted is copied to the front of
 -- the lent bytes.
 use borrow.Author.Needs.{needs}
 use Rattle.tree.proofs.Begins.{refused-on, passed-on}
