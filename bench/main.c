@@ -1,8 +1,9 @@
 /* Measures the library beside the plain scan: one run, the same tables, marks and buffers, lent to both. Writes the
    figures to standard output, the plot of heaviest, with the second argument below it, to the file that the first
-   names, and how far it is to standard error. Ends with status 1 where the two give different answers, or a window has
-   no pair. */
+   names, and how far it is to standard error. Ends with status 1 where the two give different answers, a window has no
+   pair, or a list is not vetted as it was made. */
 #include "hourbench.h"
+#include "lists.h"
 #include "nets.h"
 #include "scan.h"
 #include "timing.h"
@@ -308,8 +309,10 @@ int main(int argc, char **argv) {
         printf("\n");
     }
     print_modes();
+    differ |= measure_lists();
     differ |= measure_trades();
-    printf("%s\n", differ ? "ANSWERS DIFFER, OR A WINDOW IS EMPTY" : "All answers were equal.");
+    printf("%s\n", differ ? "ANSWERS DIFFER, A WINDOW IS EMPTY, OR A LIST IS NOT VETTED AS IT WAS MADE"
+                          : "All answers were equal.");
     plot(argv[1], argv[2]);
     return differ;
 }

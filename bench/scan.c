@@ -1,8 +1,9 @@
 /* The plain scan (scan.h). Refusals, rows, neighbours where a walk follows, then a walk from a node that gives every
    length and weight, or for a window every count and weight: for one node, or for each in turn; the rows of a ring by a
    walk too. A walk goes to every node, also past the bound or a window's upper count limit. Its hops are left 0: a scan
-   has no spines. */
+   has no spines. A list that is vetted is sorted by first node, on the heap. */
 #include "scan.h"
+#include <stdlib.h>
 #include <string.h>
 
 enum { MOST = 4096, MOST_RUN = 32766, SPENT = 32768 /* a mark's top bit */ };
@@ -34,6 +35,7 @@ typedef struct {
 
 static uint32_t u16(const uint8_t *s) { return s[0] | (uint32_t)s[1] << 8; }
 static uint32_t u32(const uint8_t *s) { return u16(s) | u16(s + 2) << 16; }
+static uint64_t u64(const uint8_t *s) { return u32(s) | (uint64_t)u32(s + 4) << 32; }
 
 static uint8_t refuse(int64_t answer[8], uint8_t number, size_t row) {
     memset(answer, 0, 8 * sizeof *answer);
@@ -367,6 +369,57 @@ uint8_t scan_window_list(const uint8_t *table, size_t table_len, const uint16_t 
     }
     refuse(answer, 0, 0);
     answer[3] = (int64_t)written, answer[4] = (int64_t)left;
+    return 0;
+}
+
+/* The numbers of the list's rows by their first node, each node's rising: those of node a stand from first[a] to
+   first[a + 1]. Only rows before the first that names no pair of n nodes, whose number this gives (or how many rows
+   there are), since no later one can be the first at fault. */
+static uint32_t by_first(const uint8_t *list, size_t rows, size_t n, uint32_t first[MOST + 2], uint32_t *order) {
+    size_t r = 0;
+    memset(first, 0, (n + 2) * sizeof *first);
+    for (; r < rows; r++) {
+        uint32_t a = u16(list + 16 * r), b = u16(list + 16 * r + 2);
+        if (a >= b || b >= n) break;
+        first[a + 2]++;
+    }
+    for (size_t a = 0; a < n; a++) first[a + 2] += first[a + 1];
+    for (size_t k = 0; k < r; k++) order[first[u16(list + 16 * k) + 1]++] = (uint32_t)k;
+    return (uint32_t)r;
+}
+
+/* A list of fewer than 2^32 rows. */
+uint8_t scan_vet(const uint8_t *table, size_t table_len, const uint16_t *marks, size_t marks_len, int64_t floor,
+                 const uint8_t *list, size_t list_len, int64_t answer[8]) {
+    net t;
+    paths p;
+    uint8_t named[MOST]; /* by a row with the first node that is walked from */
+    uint32_t first[MOST + 2];
+    uint8_t number = begin_walks(table, table_len, marks, marks_len, &t, answer);
+    if (number) return number;
+    if (list_len % 16) return refuse(answer, 32, 0);
+    size_t rows = list_len / 16, low = 0, high = 0; /* the first pair missing: 0 and 0 where none is */
+    uint32_t *order = malloc(rows * sizeof *order + 1);
+    if (!order) abort();
+    uint32_t fault = by_first(list, rows, t.n, first, order);
+    for (size_t a = 0; a < t.n; a++) {
+        walk(&t, (uint16_t)a, &p);
+        memset(named, 0, t.n);
+        for (uint32_t i = first[a]; i < first[a + 1] && order[i] < fault; i++) {
+            const uint8_t *row = list + 16 * (size_t)order[i];
+            size_t b = u16(row + 2);
+            int64_t length = p.length[b], weight = p.weight[b];
+            if (named[b] || u32(row + 4) != length || u64(row + 8) != (uint64_t)weight || length > t.bound ||
+                weight < floor) fault = order[i];
+            named[b] = 1;
+        }
+        for (size_t b = a + 1; b < t.n && high == 0 && fault == rows; b++)
+            if (!named[b] && p.length[b] <= t.bound && p.weight[b] >= floor) low = a, high = b;
+    }
+    free(order);
+    refuse(answer, 0, 0);
+    if (fault < rows) answer[3] = 2, answer[4] = fault;
+    else answer[3] = high ? 3 : 1, answer[5] = (int64_t)low, answer[6] = (int64_t)high;
     return 0;
 }
 

@@ -21,6 +21,8 @@ uint8_t scan_window(const uint8_t *table, size_t table_len, const uint16_t *mark
 uint8_t scan_window_list(const uint8_t *table, size_t table_len, const uint16_t *marks, size_t marks_len,
                          uint32_t count_low, uint32_t count_high, int64_t sum_low, int64_t sum_high,
                          uint16_t from_low, uint16_t from_high, uint8_t *rows, size_t rows_len, int64_t answer[8]);
+uint8_t scan_vet(const uint8_t *table, size_t table_len, const uint16_t *marks, size_t marks_len, int64_t floor,
+                 const uint8_t *list, size_t list_len, int64_t answer[8]);
 uint8_t scan_claim(const uint8_t *table, size_t table_len, uint16_t *marks, size_t marks_len,
                    uint16_t run, uint16_t a, uint16_t b, int64_t answer[8]);
 uint8_t scan_commit(const uint8_t *table, size_t table_len, uint16_t *marks, size_t marks_len,

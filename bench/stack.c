@@ -8,14 +8,24 @@
 #include <stdlib.h>
 #include <string.h>
 
-enum { STACK = 2 << 20, NODES = 4096, TEXT = 1 << 18, OPS = 16, PAINT = 0xA5 };
+enum { STACK = 2 << 20, NODES = 4096, TEXT = 1 << 18, OPS = 17, PAINT = 0xA5 };
 static const char *names[OPS] = {"(the thread itself)", "hb_accept", "hb_pair", "hb_heaviest", "hb_heaviest_exact",
-                                 "hb_heads", "hb_listing", "hb_listing_exact", "hb_window", "hb_window_list",
+                                 "hb_heads", "hb_listing", "hb_listing_exact", "hb_window", "hb_window_list", "hb_vet",
                                  "hb_claim", "hb_commit", "hb_abort", "hb_convert", "hb_dimacs_read",
                                  "hb_dimacs_write"};
 static uint8_t table[12 * NODES], made[12 * NODES], page[65536], lengths[TEXT], weights[TEXT], text[TEXT], other[TEXT];
+static uint8_t list[65536]; /* the listing's first rows */
 static uint16_t marks[NODES], heads[NODES];
-static size_t size, lengths_len, weights_len;
+static size_t size, list_len, lengths_len, weights_len;
+
+/* A list whose rows are good and from which others are missing; the same with a row at fault; a list that is ours. */
+static void vet_lists(int64_t answer[8]) {
+    hb_vet(table, size, marks, NODES - 1, 0, list, list_len, answer);
+    list[list_len - 16] ^= 1;
+    hb_vet(table, size, marks, NODES - 1, 0, list, list_len, answer);
+    list[list_len - 16] ^= 1;
+    hb_vet(table, size, marks, NODES - 1, INT64_MAX, list, 0, answer);
+}
 
 static void *call(void *which) {
     int64_t answer[8];
@@ -32,12 +42,13 @@ static void *call(void *which) {
     case 9:
         hb_window_list(table, size, marks, m, 1, NODES, INT64_MIN, INT64_MAX, 0, 0, page, sizeof page, answer);
         break;
-    case 10: hb_claim(table, size, marks, m, 7, 1, 2, answer); break;
-    case 11: hb_commit(table, size, marks, m, 7, answer); break;
-    case 12: hb_abort(table, size, marks, m, 7, answer); break;
-    case 13: hb_convert(table, size, marks, m, answer); break;
-    case 14: hb_dimacs_read(lengths, lengths_len, weights, weights_len, 0, made, sizeof made, answer); break;
-    case 15: hb_dimacs_write(table, size, text, TEXT, other, TEXT, answer); break;
+    case 10: vet_lists(answer); break;
+    case 11: hb_claim(table, size, marks, m, 7, 1, 2, answer); break;
+    case 12: hb_commit(table, size, marks, m, 7, answer); break;
+    case 13: hb_abort(table, size, marks, m, 7, answer); break;
+    case 14: hb_convert(table, size, marks, m, answer); break;
+    case 15: hb_dimacs_read(lengths, lengths_len, weights, weights_len, 0, made, sizeof made, answer); break;
+    case 16: hb_dimacs_write(table, size, text, TEXT, other, TEXT, answer); break;
     }
     return NULL;
 }
@@ -86,6 +97,9 @@ int main(void) {
         if (hb_dimacs_write(table, size, lengths, TEXT, weights, TEXT, answer)) return 2;
         lengths_len = (size_t)answer[3], weights_len = (size_t)answer[4];
         if (net % 2) weigh_by_kind(NODES, table);
+        if (hb_listing(table, size, marks, NODES - 1, 0, 0, 0, list, sizeof list, answer)) return 2;
+        list_len = 16 * (size_t)answer[3];
+        if (list_len == 0) return 2;
         if (take(stack, most)) return 2;
         close_ring(NODES, table);
         if (take(stack, ringed)) return 2;

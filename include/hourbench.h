@@ -69,6 +69,7 @@
        29  no room for the output
        30  the lower count limit is 0, or above the upper one, or the lower sum above the upper one
        31  no pair in the window
+       32  the list's size is no multiple of 16
    Every function but hb_dimacs_read begins with 1 to 11; for rows of version 2, 22 and then 23 stand where 10 does. */
 #ifndef HOURBENCH_H
 #define HOURBENCH_H
@@ -77,10 +78,10 @@
 #include <stdint.h>
 
 /* The library's version; CHANGES.md says how it moves. */
-#define HB_VERSION "1.7.1"
+#define HB_VERSION "1.8.0"
 #define HB_VERSION_MAJOR 1
-#define HB_VERSION_MINOR 7
-#define HB_VERSION_PATCH 1
+#define HB_VERSION_MINOR 8
+#define HB_VERSION_PATCH 0
 
 /* Of a mark: HB_RUN, the run by which its branch is held or spent, 0 where free; HB_SPENT, whether it is spent. */
 #define HB_RUN(mark) ((mark) & 0x7fffu)
@@ -133,6 +134,15 @@ uint8_t hb_window(const uint8_t *table, size_t table_len, const uint16_t *marks,
 uint8_t hb_window_list(const uint8_t *table, size_t table_len, const uint16_t *marks, size_t marks_len,
                        uint32_t count_low, uint32_t count_high, int64_t sum_low, int64_t sum_high,
                        uint16_t from_low, uint16_t from_high, uint8_t *rows, size_t rows_len, int64_t *answer);
+
+/* Is `list`, rows of 16 bytes as the listing has them, in any order, our whole listing for this table, these marks and
+   this floor? Yes exactly if it holds each pair of that listing once and nothing else; otherwise the first row at
+   fault, one that is not, byte for byte, the listing's row of a pair, or that names the same pair as an earlier row;
+   or, if no row is at fault, the first pair missing, in pair order. A row at fault and a pair missing are answers, no
+   refusals. An empty list is a list too. Fields: verdict (1 yes, 2 a row at fault, 3 a pair missing); the row at fault,
+   from 0; low, high of the pair missing; 0 where there is no such row or pair. Then 13, 32. */
+uint8_t hb_vet(const uint8_t *table, size_t table_len, const uint16_t *marks, size_t marks_len, int64_t floor,
+               const uint8_t *list, size_t list_len, int64_t *answer);
 
 /* Each free branch of the path between a and b becomes held by the run. Fields: claimed. Then 13, 14, 15, 18, 19. */
 uint8_t hb_claim(const uint8_t *table, size_t table_len, uint16_t *marks, size_t marks_len,

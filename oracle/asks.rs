@@ -1,5 +1,5 @@
 //! An ask: an operation and its numbers; what it answers; its line (README.md has the form of both).
-use crate::net::{self, Lengths, Mark, Refused, Window};
+use crate::net::{self, Lengths, Mark, Refused, Vetted, Window};
 
 /// What every lent byte and every lent head holds before a call.
 pub const LENT: u8 = 165;
@@ -26,12 +26,13 @@ pub enum Op {
     Claim,
     Commit,
     Abort,
+    Vet,
     /// No operation: another bound for the asks that follow (README.md).
     Bound,
 }
 
 /// Each operation's code in an ask.
-pub const CODES: [(Op, u16); 21] = [
+pub const CODES: [(Op, u16); 22] = [
     (Op::Open, 1),
     (Op::Examine, 2),
     (Op::RowPart, 3),
@@ -53,11 +54,13 @@ pub const CODES: [(Op, u16); 21] = [
     (Op::Commit, 66),
     (Op::Abort, 67),
     (Op::Bound, 81),
+    (Op::Vet, 97),
 ];
 
-/// The text is what its line begins with. `lent` is how many bytes or heads are lent, `shown` how many elements of the
-/// lent memory the line shows; a and b are two nodes or a starting pair, x a row number, a bound, or the 64 bits of a
-/// floor or of a window's lower sum; its upper sum, and its lower and upper count limit, stand by themselves.
+/// The text is what its line begins with. `lent` is how many bytes or heads are lent, or bytes of a list, `shown` how
+/// many elements of the lent memory the line shows; a and b are two nodes or a starting pair, x a row number, a bound,
+/// or the 64 bits of a floor or of a window's lower sum; its upper sum, and its lower and upper count limit, stand by
+/// themselves, and so does the list that is vetted.
 #[derive(Clone, PartialEq, Debug)]
 pub struct Ask {
     pub op: Op,
@@ -70,6 +73,7 @@ pub struct Ask {
     pub x: u64,
     pub sum_high: i64,
     pub counts: [u32; 2],
+    pub list: Vec<u8>,
 }
 
 /// What an ask is answered: number, row and ring (0 where nothing is refused), the operation's fields (0 in a refusal),
@@ -90,10 +94,19 @@ pub fn of_mark(mark: Mark) -> Vec<i128> {
     }
 }
 
+/// What vetting finds, as four fields: 1 yes, 2 a row at fault, 3 a pair missing; that row; that pair.
+pub fn of_verdict(vetted: Vetted) -> Vec<i128> {
+    match vetted {
+        Vetted::Yes => vec![1, 0, 0, 0],
+        Vetted::Fault(row) => vec![2, row as i128, 0, 0],
+        Vetted::Missing(low, high) => vec![3, 0, low as i128, high as i128],
+    }
+}
+
 impl Ask {
     pub fn new(op: Op, text: &str) -> Ask {
         let text = text.to_string();
-        Ask { op, text, lent: 0, shown: 0, run: 0, a: 0, b: 0, x: 0, sum_high: 0, counts: [0, 0] }
+        Ask { op, text, lent: 0, shown: 0, run: 0, a: 0, b: 0, x: 0, sum_high: 0, counts: [0, 0], list: vec![] }
     }
 
     /// With the numbers of a window.
@@ -107,6 +120,12 @@ impl Ask {
         Window { counts: self.counts, sums: [self.x as i64, self.sum_high] }
     }
 
+    /// With a list to be vetted, and the floor.
+    pub fn of_list(self, floor: i64, list: Vec<u8>) -> Ask {
+        let lent = list.len().try_into().expect("a list of at most 65,535 bytes");
+        Ask { x: floor as u64, lent, list, ..self }
+    }
+
     /// How many fields the operation's answer has.
     pub fn many(&self) -> usize {
         match self.op {
@@ -115,7 +134,7 @@ impl Ask {
             Op::Open | Op::Examine | Op::Accept | Op::Reading => 2,
             Op::Listing | Op::ListingExact | Op::WindowList => 2,
             Op::Pair => 3,
-            Op::Row | Op::Heaviest | Op::HeaviestExact | Op::Window => 4,
+            Op::Row | Op::Heaviest | Op::HeaviestExact | Op::Window | Op::Vet => 4,
         }
     }
 
@@ -169,6 +188,7 @@ impl Ask {
                 net::set_bound(t, self.x as u32);
                 Ok(vec![])
             }
+            Op::Vet => net::vet(t, marks, self.x as i64, &self.list).map(of_verdict),
         };
         let memory = match self.op {
             Op::RowPart => wide(net::part(t, self.x)),

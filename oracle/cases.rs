@@ -25,12 +25,14 @@ pub fn write(out: &mut impl Write, cases: &[Case]) -> Result<()> {
         for q in &c.asks {
             let code = CODES.iter().find(|(op, _)| *op == q.op).unwrap().1;
             assert!(q.text.len() <= 512 && (q.op != Op::Heads || q.lent <= 4_200));
+            assert!(q.list.len() == if q.op == Op::Vet { q.lent as usize } else { 0 });
             put_16(out, &[code as usize, q.text.len()])?;
             put_16(out, &[q.lent, q.shown, q.run, q.a, q.b].map(usize::from))?;
             out.write_all(&q.x.to_le_bytes())?;
             out.write_all(&q.sum_high.to_le_bytes())?;
             put_32(out, &q.counts)?;
             out.write_all(q.text.as_bytes())?;
+            out.write_all(&q.list)?;
         }
     }
     Ok(())
@@ -40,8 +42,9 @@ fn ask(input: &mut impl Read) -> Result<Ask> {
     let [code, size, lent, shown, run, a, b] = get_16(input)?;
     let op = CODES.iter().find(|(_, c)| *c == code).expect("an operation").0;
     let (x, sum_high) = (get_64(input)?, get_64(input)? as i64);
-    let counts = get_32(input)?;
-    Ok(Ask { op, text: text(input, size)?, lent, shown, run, a, b, x, sum_high, counts })
+    let (counts, text) = (get_32(input)?, text(input, size)?);
+    let list = bytes(input, if op == Op::Vet { lent as usize } else { 0 })?;
+    Ok(Ask { op, text, lent, shown, run, a, b, x, sum_high, counts, list })
 }
 
 pub fn read(input: &mut impl Read) -> Result<Vec<Case>> {

@@ -1,6 +1,6 @@
 //! Random cases, some damaged.
 use crate::net::{self, Net, Window};
-use crate::plain::{all_pairs, table, Branch, Carried, Plain};
+use crate::plain::{all_pairs, our_rows, table, Branch, Carried, List, Listed, Plain};
 use crate::random::Random;
 
 /// The parent of each node but 0, by shape.
@@ -198,6 +198,96 @@ fn window(r: &mut Random, net: &Net, marks: &[u16]) -> Window {
     Window { counts, sums }
 }
 
+/// A floor that at most so many pairs within the bound weigh, where there are more; else one that all of them do.
+fn floor_for(r: &mut Random, net: &Net, marks: &[u16], most: usize) -> i64 {
+    let mut weights = vec![];
+    for a in 0..net.n {
+        let f = net.from(a, marks);
+        weights.extend((a + 1..net.n).filter(|b| f.length[*b] <= net.bound).map(|b| f.weight[b]));
+    }
+    weights.sort();
+    match weights.len().checked_sub(most + 1) {
+        Some(last_out) => weights[last_out] + 1,
+        None => r.pick(&[i64::MIN, *weights.first().unwrap_or(&0)]),
+    }
+}
+
+/// The row of some pair, be it in the listing or not; any bytes where there is no pair.
+fn some_row(r: &mut Random, net: &Net, marks: &[u16]) -> Listed {
+    if net.n == 1 {
+        return [0; 16].map(|_| r.next() as u8);
+    }
+    let a = r.below(net.n - 1);
+    net.from(a, marks).row(a, a + 1 + r.below(net.n - 1 - a))
+}
+
+/// One of a row's bits turned, from the first to the last of these bytes.
+fn turn(r: &mut Random, row: &mut Listed, first: usize, last: usize) {
+    row[first + r.below(last - first + 1)] ^= 1 << r.below(8);
+}
+
+/// One fault of a list's rows, or what is none.
+fn spoil(r: &mut Random, net: &Net, marks: &[u16], rows: &mut Vec<Listed>) {
+    let (at, to) = (r.below(rows.len().max(1)), r.below(rows.len() + 1));
+    match r.below(12) {
+        0 | 1 => rows.insert(to, some_row(r, net, marks)),
+        2 => rows.insert(to, [0; 16].map(|_| r.next() as u8)),
+        _ if rows.is_empty() => rows.push(some_row(r, net, marks)),
+        3 => { rows.remove(at); }
+        4 | 5 => rows.insert(to, rows[at]),
+        // The pair twice, with other figures.
+        6 => { let mut row = rows[at]; turn(r, &mut row, 4, 15); rows.insert(to, row) }
+        // The higher node first; a node twice; a node that is none.
+        7 => { let row = rows[at]; rows[at][..4].copy_from_slice(&[row[2], row[3], row[0], row[1]]) }
+        8 => match r.below(3) {
+            0 => { let row = rows[at]; rows[at][..2].copy_from_slice(&row[2..4]) }
+            1 => rows[at][2..4].copy_from_slice(&(net.n as u16).to_le_bytes()),
+            _ => { let end = 2 * r.below(2); rows[at][end..end + 2].copy_from_slice(&[255, 255]) }
+        },
+        9 => turn(r, &mut rows[at], 0, 3),
+        10 => turn(r, &mut rows[at], 4, 7),
+        _ => turn(r, &mut rows[at], 8, 15),
+    }
+}
+
+/// Bytes of another size, or any at all.
+fn misfit(r: &mut Random, bytes: &mut Vec<u8>) {
+    let any = |r: &mut Random, many: usize| (0..many).map(|_| r.next() as u8).collect::<Vec<u8>>();
+    match r.below(4) {
+        0 => bytes.truncate(r.pick(&[0, 1, 15, 16, 17, 31, 32])),
+        1 => bytes.truncate(r.below(bytes.len() + 1)),
+        2 => { let more = 1 + r.below(15); bytes.extend(any(r, more)) }
+        _ => { let many = r.pick(&[1, 15, 16, 17, 48, 80]); *bytes = any(r, many) }
+    }
+}
+
+/// A list to be vetted: our listing's rows in any order, mostly at most 66 of them, so many left out, with so many
+/// faults. One with faults may also be the listing of another floor, other marks or another bound, or of a size that
+/// does not fit.
+fn list(r: &mut Random, net: &Net, t: &[u8], marks: &[u16], floor: i64, out: usize, faults: usize) -> List {
+    let most = if r.one_in(16) { 4_090 } else { r.pick(&[10, 30, 66]) };
+    let floor = if r.one_in(3) { floor } else { floor_for(r, net, marks, most) };
+    let other_bound = |bound: u32| { let mut t = t.to_vec(); net::set_bound(&mut t, bound); t };
+    let mut rows = match if faults == 0 { 5 } else { r.below(16) } {
+        0 => our_rows(t, marks, floor.saturating_sub(1), most),
+        1 => our_rows(t, marks, floor.saturating_add(1), most),
+        2 => our_rows(t, &vec![0; marks.len()], floor, most),
+        3 => our_rows(&other_bound((net.bound as u32).saturating_sub(1)), marks, floor, most),
+        4 => our_rows(&other_bound((net.bound as u32).saturating_add(1)), marks, floor, most),
+        _ => our_rows(t, marks, floor, most),
+    };
+    r.shuffle(&mut rows);
+    rows.truncate(rows.len().saturating_sub(out));
+    for _ in 0..faults {
+        spoil(r, net, marks, &mut rows);
+    }
+    let mut bytes = rows.concat();
+    if faults > 0 && r.one_in(6) {
+        misfit(r, &mut bytes);
+    }
+    List { floor, bytes }
+}
+
 /// One fault, of a table of this version.
 fn damage(r: &mut Random, t: &mut Vec<u8>, n: usize, version: u8) {
     let some_row = |r: &mut Random| if n < 2 { 0 } else { 12 + 12 * r.below(n - 1) };
@@ -248,8 +338,8 @@ fn random(r: &mut Random, limit: usize) -> Plain {
     };
     let version = if r.one_in(3) { 2 } else { 1 };
     let rows = branches(r, n, version);
-    // From numbers of their own, so that the tables stay the same whatever marks and windows are made and whatever is
-    // relaxed.
+    // From numbers of their own, so that the tables stay the same whatever marks, windows and lists are made and
+    // whatever is relaxed.
     let own = &mut Random(r.next());
     let run = run_number(own);
     let other = if own.one_in(3) { run } else { run_number(own) };
@@ -282,6 +372,10 @@ fn random(r: &mut Random, limit: usize) -> Plain {
     };
     let (raised, lower) = relaxed(own, &open, &marks, bound, floor);
     let windows = [window(own, &open, &marks), window(own, &open, &marks)];
+    let bounded = net::accept(&t).ok().expect("a tree");
+    let (out, many) = (own.below(3), 1 + own.below(3));
+    let spoilt = [if own.one_in(4) { (out, 1) } else { (0, 0) }, if own.one_in(3) { (many, 0) } else { (out, many) }];
+    let lists = spoilt.map(|(out, faults)| list(own, &bounded, &t, &marks, floor, out, faults));
     let any = |r: &mut Random| match r.below(24) {
         0 => n as u16,
         1 => r.pick(&[4095, 4096, 65535]),
@@ -312,7 +406,7 @@ fn random(r: &mut Random, limit: usize) -> Plain {
         }
     }
     let whole = all_pairs(n);
-    Plain { table: t, marks, run, other, a, b, start, room, heads, floor, windows, raised, lower, whole }
+    Plain { table: t, marks, run, other, a, b, start, room, heads, floor, windows, lists, raised, lower, whole }
 }
 
 /// A second fault, so that the order of refusals shows.

@@ -1,4 +1,5 @@
 //! A net and what every operation says of it, straight from documents 01 and 02: plain scans, nothing clever.
+use std::collections::HashSet;
 
 /// A refusal: its number, the row it names (0 where it names none), and for 11 alone how many rows the ring has, else 0
 /// (document 02, Req 03).
@@ -34,6 +35,18 @@ pub struct From {
     pub weight: Vec<i64>,
     pub count: Vec<usize>,
     pub last: Vec<Option<(usize, usize)>>,
+}
+
+impl From {
+    /// The 16 bytes of a listing's row for the path from `a`, where it starts, to `b`.
+    pub fn row(&self, a: usize, b: usize) -> [u8; 16] {
+        let mut row = [0; 16];
+        row[0..2].copy_from_slice(&(a as u16).to_le_bytes());
+        row[2..4].copy_from_slice(&(b as u16).to_le_bytes());
+        row[4..8].copy_from_slice(&(self.length[b] as u32).to_le_bytes());
+        row[8..16].copy_from_slice(&self.weight[b].to_le_bytes());
+        row
+    }
 }
 
 /// The scores of kinds 0 to 23, in order (document 02, Req 05).
@@ -420,11 +433,7 @@ impl Page<'_> {
             self.left += 1;
             return;
         }
-        let row = &mut self.bytes[16 * self.written..16 * self.written + 16];
-        row[0..2].copy_from_slice(&(a as u16).to_le_bytes());
-        row[2..4].copy_from_slice(&(b as u16).to_le_bytes());
-        row[4..8].copy_from_slice(&(f.length[b] as u32).to_le_bytes());
-        row[8..16].copy_from_slice(&f.weight[b].to_le_bytes());
+        self.bytes[16 * self.written..16 * self.written + 16].copy_from_slice(&f.row(a, b));
         self.written += 1;
     }
 }
@@ -529,6 +538,46 @@ pub fn window_list(
         }
     }
     Ok((page.written, page.left))
+}
+
+/// What vetting a list finds (document 02, Req 11): it is our listing; the first row at fault, from 0; the pair, lower
+/// node first.
+pub enum Vetted {
+    Yes,
+    Fault(usize),
+    Missing(usize, usize),
+}
+
+/// Does a list hold each pair of our listing for that floor, once each and in any order, and nothing else? A row is at
+/// fault that is none of our listing's, byte for byte, or whose pair an earlier row names; only where no row is, the
+/// first pair missing is told. 32.
+pub fn vet(s: &[u8], marks: &[u16], floor: i64, list: &[u8]) -> Result<Vetted, Refused> {
+    let net = accept(s)?;
+    net.marks_fit(marks)?;
+    if list.len() % 16 != 0 {
+        return Err(refused(32, 0));
+    }
+    let given: HashSet<&[u8]> = list.chunks(16).collect();
+    // Of our listing's rows, in pair order, those that are given, and the first that is not.
+    let (mut ours, mut missing) = (HashSet::new(), None);
+    for a in 0..net.n {
+        let f = net.from(a, marks);
+        for b in (a + 1..net.n).filter(|b| f.length[*b] <= net.bound && f.weight[*b] >= floor) {
+            if let Some(row) = given.get(&f.row(a, b)[..]) {
+                ours.insert(*row);
+            } else if missing.is_none() {
+                missing = Some((a, b));
+            }
+        }
+    }
+    let mut named = HashSet::new();
+    for (r, row) in list.chunks(16).enumerate() {
+        let repeats = !named.insert(&row[..4]);
+        if repeats || !ours.contains(row) {
+            return Ok(Vetted::Fault(r));
+        }
+    }
+    Ok(missing.map_or(Vetted::Yes, |(a, b)| Vetted::Missing(a, b)))
 }
 
 /// Each free branch of the path becomes held by the run: how many.

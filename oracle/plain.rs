@@ -1,7 +1,7 @@
 //! A table with marks and one number of each sort, about which every operation is asked: what a random case is made of.
 use crate::asks::{Ask, Op};
 use crate::cases::Case;
-use crate::net::{self, Window};
+use crate::net::{self, Lengths, Window};
 
 /// What a row carries beside its nodes and length: its weight (version 1), or a kind and a count (version 2).
 #[derive(Clone, Copy)]
@@ -12,6 +12,16 @@ pub enum Carried {
 
 /// Two nodes, length, and what it carries.
 pub type Branch = (u16, u16, u32, Carried);
+
+/// A row of a listing, or of a list that is vetted.
+pub type Listed = [u8; 16];
+
+/// A list that is vetted, and by what floor.
+#[derive(Clone, Default)]
+pub struct List {
+    pub floor: i64,
+    pub bytes: Vec<u8>,
+}
 
 #[derive(Clone)]
 pub struct Plain {
@@ -34,6 +44,8 @@ pub struct Plain {
     /// The first is asked for the most branches, before the claim and after it, and listed from the starting pair on;
     /// of the second all pairs with the most branches are listed.
     pub windows: [Window; 2],
+    /// The first is vetted before the claim and after it, the second before it.
+    pub lists: [List; 2],
     /// What is relaxed at the end (Req 08): the bound, twice, and the floor; bytes lent for the lists compared then.
     pub raised: [u32; 2],
     pub lower: i64,
@@ -71,6 +83,14 @@ pub fn all_pairs(n: usize) -> u16 {
     (8 * n * n.saturating_sub(1)).clamp(16, 65_535) as u16
 }
 
+/// The first rows of our listing, as many as are asked for; none where it is refused.
+pub fn our_rows(table: &[u8], marks: &[u16], floor: i64, many: usize) -> Vec<Listed> {
+    let mut page = vec![0; 16 * many];
+    let listed = net::listing(table, marks, Lengths::AtMost, floor, (0, 0), &mut page);
+    let (written, _) = listed.unwrap_or_default();
+    page.chunks(16).take(written).map(|row| row.try_into().expect("16 bytes")).collect()
+}
+
 /// A window with every pair in it.
 const ALL: Window = Window { counts: [1, u32::MAX], sums: [i64::MIN, i64::MAX] };
 
@@ -90,6 +110,7 @@ pub fn plain(table: Vec<u8>, marks: &[u16]) -> Plain {
         heads: nodes.min(4_200),
         floor: 7,
         windows: [Window { counts: [1, 2], sums: [5, 9] }, ALL],
+        lists: [List::default(), List::default()],
         raised: [bound.saturating_add(1), u32::MAX],
         lower: i64::MIN,
         whole: all_pairs(nodes as usize),
@@ -97,6 +118,15 @@ pub fn plain(table: Vec<u8>, marks: &[u16]) -> Plain {
 }
 
 impl Plain {
+    /// With two lists of its own: the listing's rows, at most 64, the last first; the same without the first pair's.
+    pub fn with_lists(self) -> Plain {
+        let mut rows = our_rows(&self.table, &self.marks, self.floor, 64);
+        rows.reverse();
+        let whole = List { floor: self.floor, bytes: rows.concat() };
+        rows.pop();
+        Plain { lists: [whole, List { floor: self.floor, bytes: rows.concat() }], ..self }
+    }
+
     /// The usual asks: every operation on the table and its marks as they come, then the changes of the marks and what
     /// is said of them then; at the end the bound is raised and the floor lowered. Each change stands between two asks
     /// for the heaviest run, so that relaxing.rs can compare them.
@@ -111,6 +141,7 @@ impl Plain {
         let all_most = |(a, b), lent, window| {
             Ask { a, b, lent, ..of(Op::WindowList, "window list") }.of_window(window)
         };
+        let vet = |list: &List| of(Op::Vet, "vet").of_list(list.floor, list.bytes.clone());
         let bound = |b: u32| Ask { x: b as u64, ..of(Op::Bound, "bound") };
         let list = |floor: i64| Ask { lent: self.whole, x: floor as u64, ..of(Op::Listing, "listing") };
         vec![
@@ -125,9 +156,12 @@ impl Plain {
             most(),
             all_most(self.start, self.room, self.windows[0]),
             all_most((0, 0), self.whole, self.windows[1]),
+            vet(&self.lists[0]),
+            vet(&self.lists[1]),
             Ask { run: self.run, ..pair(Op::Claim, "claim") },
             of(Op::Heaviest, "heaviest"),
             most(),
+            vet(&self.lists[0]),
             Ask { run: self.other, ..of(Op::Commit, "commit") },
             of(Op::Heaviest, "heaviest"),
             Ask { run: self.run, ..of(Op::Abort, "abort") },

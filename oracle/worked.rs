@@ -1,9 +1,9 @@
 //! Reads worked.txt: the hand-worked cases in words, each ask with the answer that was worked out by hand. What is
 //! written there is what the library must say; that this program computes the same is tested, and a difference is told
 //! with its line. README.md has the form.
-use crate::asks::{of_mark, Ask, Op, Said, LENT};
+use crate::asks::{of_mark, of_verdict, Ask, Op, Said, LENT};
 use crate::cases::Case;
-use crate::net::{Mark, Window};
+use crate::net::{Mark, Vetted, Window};
 use crate::plain::{plain, table, version, Branch, Carried};
 use std::collections::HashMap;
 use std::str::FromStr;
@@ -92,6 +92,19 @@ pub fn alike(net: &[Branch]) -> Read<()> {
     Ok(())
 }
 
+/// What may be said of bytes, a table's or a list's: `byte P is V`, `cut to K bytes`, `then K more` (zeros). Is it one
+/// of these?
+fn change(bytes: &mut Vec<u8>, said: &[&str]) -> Read<bool> {
+    match said {
+        ["byte", p, "is", v] => *bytes.get_mut(number::<usize>(p)?).ok_or("no such byte")? = number(v)?,
+        ["cut", "to", k, "bytes"] => bytes.truncate(number(k)?),
+        ["then", k, "more"] => bytes.resize(bytes.len() + number::<usize>(k)?, 0),
+        ["byte" | "cut" | "then", ..] => return strange("what is said of bytes", said),
+        _ => return Ok(false),
+    }
+    Ok(true)
+}
+
 /// A table's bytes, and how many rows its net has: the net, then what is said of it and what of the bytes.
 pub fn table_of(line: &str, nets: &Nets) -> Read<(Vec<u8>, usize)> {
     let all = parts(line);
@@ -122,13 +135,7 @@ pub fn table_of(line: &str, nets: &Nets) -> Read<(Vec<u8>, usize)> {
     alike(&net)?;
     let mut t = table(nodes, bound, &net);
     for part in &all[1..] {
-        match part[..] {
-            ["byte", p, "is", v] => *t.get_mut(number::<usize>(p)?).ok_or("no such byte")? = number(v)?,
-            ["cut", "to", k, "bytes"] => t.truncate(number(k)?),
-            ["then", k, "more"] => t.resize(t.len() + number::<usize>(k)?, 0),
-            ["byte" | "cut" | "then", ..] => return strange("what is said of a table", part),
-            _ => {}
-        }
+        change(&mut t, part)?;
     }
     Ok((t, net.len()))
 }
@@ -166,6 +173,41 @@ fn paged(words: &[&str]) -> Read<(u16, u16, u16)> {
     }
 }
 
+/// A list to be vetted: rows, `1-3 6 7`, those of all pairs along a chain or in a star, or `nothing`; then `last
+/// first`, and what is said of its bytes.
+fn list(text: &str) -> Read<Vec<u8>> {
+    let mut bytes = vec![];
+    for part in parts(text) {
+        match part[..] {
+            ["nothing"] => {}
+            ["all", "pairs", "of", "a", shape, "of", n, "nodes", "length", l, "weight", w] => {
+                bytes.extend(pairs_of(shape, number(n)?, number(l)?, number(w)?)?)
+            }
+            ["last", "first"] => bytes = bytes.rchunks(16).collect::<Vec<_>>().concat(),
+            ref said if change(&mut bytes, said)? => {}
+            ref row => bytes.extend(listed(row)?),
+        }
+    }
+    Ok(bytes)
+}
+
+/// The rows of all pairs along a chain (0-1, 1-2, ..) or in a star (0-1, 0-2, ..) whose branches are alike, in order.
+fn pairs_of(shape: &str, nodes: u16, length: u32, weight: i64) -> Read<Vec<u8>> {
+    let mut bytes = vec![];
+    for a in 0..nodes {
+        for b in a + 1..nodes {
+            let branches = match shape {
+                "chain" => b - a,
+                "star" => if a == 0 { 1 } else { 2 },
+                other => return strange("a shape", &[other]),
+            };
+            let figures = (branches as u32 * length, branches as i64 * weight);
+            bytes.extend(row_of((a, b), figures));
+        }
+    }
+    Ok(bytes)
+}
+
 /// What is asked.
 fn ask(text: &str) -> Read<Ask> {
     let of = |op| Ask { shown: SHOWN, ..Ask::new(op, &format!("{text}:")) };
@@ -174,6 +216,10 @@ fn ask(text: &str) -> Read<Ask> {
         let (a, b, lent) = paged(rest)?;
         Ok(Ask { x: sum(x)? as u64, a, b, lent, ..of(op) })
     };
+    if let Some((asked, rows)) = text.split_once(" list ").filter(|_| text.starts_with("vet ")) {
+        let ["vet", "floor", x] = words(asked)[..] else { return strange("what vetting takes", &words(asked)) };
+        return Ok(of(Op::Vet).of_list(sum(x)?, list(rows)?));
+    }
     Ok(match words(text)[..] {
         ["open"] => of(Op::Open),
         ["examine"] => of(Op::Examine),
@@ -207,11 +253,15 @@ fn ask(text: &str) -> Read<Ask> {
 /// A row of a listing as its 16 bytes, from `0-2 7 7`.
 fn listed(row: &[&str]) -> Read<Vec<u8>> {
     let [pair, length, weight] = row else { return strange("a row of a listing", row) };
-    let (a, b) = ends(pair)?;
+    Ok(row_of(ends(pair)?, (number(length)?, number(weight)?)))
+}
+
+/// The same from its nodes, and its length and weight.
+fn row_of((a, b): (u16, u16), (length, weight): (u32, i64)) -> Vec<u8> {
     let mut bytes = [a.to_le_bytes(), b.to_le_bytes()].concat();
-    bytes.extend(number::<u32>(length)?.to_le_bytes());
-    bytes.extend(number::<i64>(weight)?.to_le_bytes());
-    Ok(bytes)
+    bytes.extend(length.to_le_bytes());
+    bytes.extend(weight.to_le_bytes());
+    bytes
 }
 
 /// A row of a table as its 12 bytes, from `0-1 4 5` or `0-1 4 kind 0 count 5`.
@@ -232,6 +282,16 @@ fn reading(words: &[&str]) -> Read<Mark> {
         ["held", "by", r] => Ok(Mark::Held(number(r)?)),
         ["spent", "by", r] => Ok(Mark::Spent(number(r)?)),
         other => strange("what a mark says", other),
+    }
+}
+
+/// What vetting finds: `yes`, `row 3 at fault`, `0-2 missing`.
+fn vetted(words: &[&str]) -> Read<Vetted> {
+    match words {
+        ["yes"] => Ok(Vetted::Yes),
+        ["row", r, "at", "fault"] => Ok(Vetted::Fault(number(r)?)),
+        [pair, "missing"] => ends(pair).map(|(a, b)| Vetted::Missing(a as usize, b as usize)),
+        other => strange("what vetting finds", other),
     }
 }
 
@@ -284,6 +344,7 @@ fn said(ask: &Ask, text: &str, before: &[u16]) -> Read<Said> {
             }
             _ => strange("two nodes, count and weight", one),
         },
+        (Op::Vet, [one]) => fine(Ok(of_verdict(vetted(one)?)), None),
         (Op::Convert, [one]) if one[..] == ["converted"] => fine(Ok(vec![]), None),
         (Op::Reading, [_]) if ask.x >= before.len() as u64 => Err("no such mark".to_string()),
         (Op::Reading, [one]) => fine(Ok(of_mark(reading(one)?)), None),
@@ -323,7 +384,7 @@ fn usual(text: &str, case: &Case) -> Read<Vec<Ask>> {
             ref other => return strange("what the usual asks take", other),
         }
     }
-    Ok(p.usual().into_iter().map(|q| Ask { text: format!("    {}", q.text), ..q }).collect())
+    Ok(p.with_lists().usual().into_iter().map(|q| Ask { text: format!("    {}", q.text), ..q }).collect())
 }
 
 impl Worked {

@@ -13,6 +13,7 @@ use Rattle.heaviest.proofs.Only.{heaviest-only, heaviest-exact-only}
 use Rattle.listing.proofs.Only.{listing-only, listing-exact-only}
 use Rattle.window.specs.Window.{Window}
 use Rattle.window.proofs.Only.{window-only, window-list-only}
+use Rattle.vet.proofs.Only.{vet-only}
 use Rattle.dimacs.proofs.Only.{read-only, write-only}
 use Rattle.eight.specs.Shown.{
   acceptanceInC,
@@ -21,6 +22,7 @@ use Rattle.eight.specs.Shown.{
   windowInC,
   headsInC,
   listingInC,
+  vetInC,
   changeInC,
   conversionInC,
   readInC,
@@ -37,6 +39,7 @@ use Rattle.capi.specs.Promises.{
   ListingExactCall,
   WindowCall,
   WindowListCall,
+  VetCall,
   ClaimCall,
   CommitCall,
   AbortCall,
@@ -77,6 +80,9 @@ hb-window-only s marks w = shows-only windowInC (window-only s marks w)
 pub hb-window-list-only : (s marks : List ℕ) (w : Window) (low high : ℕ) (old : List ℕ)
     → Only (WindowListCall s marks w low high old)
 hb-window-list-only s marks w low high old = shows-only listingInC (window-list-only s marks w low high old)
+
+pub hb-vet-only : (s marks : List ℕ) (floor : ℤ) (list : List ℕ) → Only (VetCall s marks floor list)
+hb-vet-only s marks floor list = shows-only vetInC (vet-only s marks floor list)
 
 pub hb-claim-only : (s before : List ℕ) (run a b : ℕ) → Only (ClaimCall s before run a b)
 hb-claim-only s before run a b = shows-only changeInC (claim-only s before run a b)

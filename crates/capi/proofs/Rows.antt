@@ -1,7 +1,7 @@
 -- The row that a refusal names is below 4,096 and its ring has no more rows than that, so that both fit a signed
 -- number: a refusal of 1 to 11 names a row of the table, or 0, and a ring has rows up to the row named alone; of an
 -- operation's own refusals, from 13 on, 24 alone names one, which has a mark.
-use Prim.Native.Nat.{ℕ, _≤_, _<_}
+use Prim.Native.Nat.{ℕ, _/_, _≤_, _<_}
 use mathlib.Core.List.{List}
 use native.Mathlib.Omega.{arith}
 use lib.IntN.{ℤ}
@@ -38,6 +38,10 @@ use Rattle.window.specs.Window.{Window, GivesMost, WindowOf, windowRefusal}
 use Rattle.window.specs.List.{WindowListOf}
 use Rattle.window.specs.declared.WindowAnswer.{WindowAnswer}
 use Rattle.window.specs.declared.WindowAnswer.the-variants as window
+use Rattle.vetting.specs.Vets.{Vets}
+use Rattle.vetting.specs.declared.Vetted.{Vetted}
+use Rattle.vetting.specs.declared.Vetted.the-variants as vetted
+use Rattle.vet.specs.Vet.{VetOf, vetRefusal}
 use Rattle.dimacs.specs.Read.{ReadOf}
 use Rattle.dimacs.specs.declared.ReadAnswer.{ReadAnswer}
 use Rattle.dimacs.specs.Write.{Wrote, WriteOf}
@@ -50,6 +54,7 @@ use Rattle.eight.specs.work.Room.{
   WindowRoom,
   HeadsRoom,
   PageRoom,
+  VetRoom,
   ChangeRoom,
   ConversionRoom,
   ReadRoom,
@@ -139,6 +144,18 @@ window-list-low s marks w low high old x p =
     let C : Listed × List ℕ → Type 0 = λ o. PageRoom (o .0) in
     few-nodes C (listingRefusal old) s told
     (λ few. own C nowhere (own C nowhere (own C nowhere (page-low _ _ _ low high old few)))) p
+
+-- a row at fault is one of the list's
+pub vet-low : (s marks : List ℕ) (floor : ℤ) (list : List ℕ) (x : Vetted) → length list < 9223372036854775808
+    → VetOf s marks floor list x → VetRoom x
+vet-low s marks floor list x h p =
+    by-beginning VetRoom vetRefusal s told (own VetRoom nowhere (own VetRoom nowhere (given _))) p
+  where
+    given : (P : _) (x : Vetted) → Vets P list (length list / 16) x → VetRoom x
+    given P vetted.Yes q = tt
+    given P (vetted.Fault i) q = omega (arith, h, q .0)
+    given P (vetted.Missing a b) q = tt
+    given P (vetted.Refused why) q = absurd q
 
 -- commit and abort
 changed : (P : ℕ → Type 0) (m : ℕ) (before : List ℕ) (x : Change × List ℕ) → Done P m before x → ChangeRoom (x .0)

@@ -1,5 +1,6 @@
--- Every C function is two calls: the operation's promise and how its outcome is shown are all that its own asks. A
--- listing's floor and a window's two sums are signed numbers, which are not changed by being handed on.
+-- Every C function is two calls: the operation's promise and how its outcome is shown are all that its own asks. The
+-- floor of a listing and of vetting and a window's two sums are signed numbers, which are not changed by being handed
+-- on.
 use Prim.Native.Nat.{ℕ}
 use mathlib.Core.Path.{_≡_}
 use mathlib.Core.List.{List}
@@ -12,8 +13,10 @@ use Rattle.listing.specs.Listing.{ListingWithin}
 use Rattle.window.specs.Window.{Window, window, WindowOf}
 use Rattle.window.specs.List.{WindowListOf}
 use Rattle.window.specs.declared.WindowAnswer.{WindowAnswer}
+use Rattle.vetting.specs.declared.Vetted.{Vetted}
+use Rattle.vet.specs.Vet.{VetOf}
 use Rattle.eight.specs.Call.{Call}
-use Rattle.eight.specs.Shown.{windowInC, listingInC}
+use Rattle.eight.specs.Shown.{windowInC, listingInC, vetInC}
 use Rattle.capi.specs.Promises.{ShowsInC}
 
 pub shows : {O C : Type 0} {Promise : O → Type 0} {inC : O → C} {c : C} (o : O) → Promise o → c ≡ inC o
@@ -25,6 +28,10 @@ pub shows-page :
     → SFits w64 floor → ListingWithin Within s marks (toZ w64 (ofZ w64 floor)) low high old o → c ≡ listingInC o
     → ShowsInC (ListingWithin Within s marks floor low high old) listingInC c
 shows-page Within s marks floor low high old o f p e = shows o (rw (toZ-ofZ w64 floor f) at p) e
+
+pub shows-vet : (s marks : List ℕ) (floor : ℤ) (list : List ℕ) (o : Vetted) {c : Call} → SFits w64 floor
+    → VetOf s marks (toZ w64 (ofZ w64 floor)) list o → c ≡ vetInC o → ShowsInC (VetOf s marks floor list) vetInC c
+shows-vet s marks floor list o f p e = shows o (rw (toZ-ofZ w64 floor f) at p) e
 
 -- what is promised of a window
 handed : (P : Window → Type 0) (a b : ℕ) (x y : ℤ) → SFits w64 x → SFits w64 y

@@ -13,6 +13,7 @@ use Rattle.heaviest.specs.Heaviest.{HeaviestOf, HeaviestExactOf}
 use Rattle.listing.specs.Listing.{ListingOf, ListingExactOf}
 use Rattle.window.specs.Window.{Window, WindowOf}
 use Rattle.window.specs.List.{WindowListOf}
+use Rattle.vet.specs.Vet.{VetOf}
 use Rattle.dimacs.specs.Read.{ReadOf}
 use Rattle.dimacs.specs.Write.{WriteOf}
 use Rattle.eight.specs.Call.{Call}
@@ -23,6 +24,7 @@ use Rattle.eight.specs.Shown.{
   windowInC,
   headsInC,
   listingInC,
+  vetInC,
   changeInC,
   conversionInC,
   readInC,
@@ -62,6 +64,9 @@ WindowCall s marks w = ShowsInC (WindowOf s marks w) windowInC
 
 abbrev pub WindowListCall : List ℕ → List ℕ → Window → ℕ → ℕ → List ℕ → Call → Type 0
 WindowListCall s marks w low high old = ShowsInC (WindowListOf s marks w low high old) listingInC
+
+abbrev pub VetCall : List ℕ → List ℕ → ℤ → List ℕ → Call → Type 0
+VetCall s marks floor list = ShowsInC (VetOf s marks floor list) vetInC
 
 abbrev pub ClaimCall : List ℕ → List ℕ → ℕ → ℕ → ℕ → Call → Type 0
 ClaimCall s before run a b = ShowsInC (Claims s before run a b) changeInC

@@ -14,6 +14,7 @@ ghost use Rattle.capi.specs.Promises.{
   ListingExactCall,
   WindowCall,
   WindowListCall,
+  VetCall,
   ClaimCall,
   CommitCall,
   AbortCall,
@@ -29,6 +30,7 @@ use eight::show_heaviest;
 use eight::show_page;
 use eight::show_pair;
 use eight::show_read;
+use eight::show_vet;
 use eight::show_window;
 use eight::show_write;
 
@@ -151,6 +153,22 @@ pub extern "C" fn hb_window_list(
 {
     let o = window::window_list(s, marks, fewest, most, floor, ceiling, low, high, rows);
     show_page(o, answer)
+}
+
+// Fields: the verdict (1 yes, 2 a row at fault, 3 a pair missing), row, low, high; the list is only read.
+#[no_mangle]
+pub extern "C" fn hb_vet(
+    s: &[u8],
+    marks: &[u16],
+    floor: i64,
+    list: &[u8],
+    answer: &mut [i64; 8],
+) -> u8
+    ensures { λ r. ⌜ VetCall (now (s .entry)) (now (marks .entry)) floor (now (list .entry))
+        (call r (now (answer .exit)) []) ⌝ }
+{
+    let o = vet::vet(s, marks, floor, list);
+    show_vet(o, answer)
 }
 
 // Fields: claimed; the marks change in place.

@@ -14,6 +14,7 @@ use spines::HeadsAnswer;
 use table::Opening;
 use table::Row;
 use tree::Acceptance;
+use vetting::Vetted;
 use window::WindowAnswer;
 
 fn opened(o: Opening) -> Answer {
@@ -143,6 +144,27 @@ fn listed(o: Listed) -> Answer {
     match o {
         Listed::Refused(why) => say::refused(why, 2),
         Listed::Rows { written, left } => say::fine(2, written as u64, left as u64),
+    }
+}
+
+// No refusal: what vetting finds, 1 yes, 2 a row at fault, 3 a pair missing; that row, and that pair.
+fn verdict(found: u64, row: u64, low: u64, high: u64) -> Answer {
+    Answer {
+        number: 0,
+        row: 0,
+        ring: 0,
+        fields: [found, row, low, high],
+        many: 4,
+        weight: 4,
+    }
+}
+
+fn vetted(o: Vetted) -> Answer {
+    match o {
+        Vetted::Refused(why) => say::refused(why, 4),
+        Vetted::Yes => verdict(1, 0, 0, 0),
+        Vetted::Fault { row } => verdict(2, row as u64, 0, 0),
+        Vetted::Missing { low, high } => verdict(3, 0, low as u64, high as u64),
     }
 }
 
@@ -277,6 +299,18 @@ fn of_bound(s: &mut [u8], q: Ask) {
     say::line(say::fine(0, 0, 0));
 }
 
+// A list to be read, of as many bytes as the ask says, which stand behind its text.
+fn of_list(s: &[u8], marks: &[u16], q: Ask) {
+    let size = q.lent;
+    let mut space = [0u8; 65536];
+    let whole = &mut space[..];
+    if size <= whole.len() {
+        let list = &mut whole[0..size];
+        read::bytes(list);
+        say::line(vetted(vet::vet(s, marks, signed(q.x), list)));
+    }
+}
+
 pub(crate) fn answer(s: &mut [u8], marks: &mut [u16], q: Ask) {
     read::text(q.text);
     let sort = q.code / 16;
@@ -286,6 +320,7 @@ pub(crate) fn answer(s: &mut [u8], marks: &mut [u16], q: Ask) {
         2 => of_rows(s, marks, q),
         3 => of_heads(s, q),
         4 => of_marks(s, marks, q),
-        _ => of_bound(s, q),
+        5 => of_bound(s, q),
+        _ => of_list(s, marks, q),
     }
 }

@@ -4,8 +4,9 @@ ghost use Prim.Native.Nat.{_<_};
 use libc::STDIN_FILENO;
 use libc::STDOUT_FILENO;
 
-// An ask: its operation, how many bytes its text has, how much memory is lent and how much of that is written out after
-// the call, and the operation's numbers: those of a window stand at the end, but for its lower sum, which is x.
+// An ask: its operation, how many bytes its text has, how much memory is lent (of vet, how many bytes the list has) and
+// how much of that is written out after the call, and the operation's numbers: those of a window stand at the end, but
+// for its lower sum, which is x.
 pub(crate) struct Ask {
     pub(crate) code: u16,
     pub(crate) text: u16,

@@ -1,36 +1,21 @@
 -- A table of version 1 is the bytes of its header and of its rows' fields, made anew.
 use Prim.Native.Nat.{ℕ, zero, suc, _+_, _-_, _*_, _≤_}
-use mathlib.Core.Path.{_≡_, refl, sym, ap, _∙_}
-use mathlib.Core.List.{List, [], _∷_, _++_, append-assoc, append-nil}
+use mathlib.Core.Path.{_≡_, refl, ap, _∙_}
+use mathlib.Core.List.{List, [], _∷_, _++_, append-nil}
 use native.Mathlib.Omega.{arith}
-use lib.ListN.{length, drop}
+use lib.ListN.{length}
 use lib.Seq.{drop-cons, drop-length}
 use Rattle.text.specs.Word.{word}
-use Rattle.table.specs.Bytes.{byteAt, u16At, u32At}
+use Rattle.table.specs.Bytes.{byteAt, u16At}
 use Rattle.table.specs.Header.{Lettered, versionOf, nodesOf, boundOf}
 use Rattle.numbers.specs.Bytes.{bytes, EachByte}
-use Rattle.numbers.proofs.There.{two-there, four-there}
+use Rattle.numbers.proofs.There.{From, then, two-at, four-at}
 use Rattle.arcs.specs.Made.{rowBytes, rowsBytes, headerBytes}
 use Rattle.arcs.proofs.RowBytes.{rows-end}
 use Rattle.arcs.proofs.Back.{fieldsOf, fieldsUpTo}
 use Rattle.written.specs.Written.{lengthArc, weightArc}
 
--- the bytes a stand from place i of s up to place j
-record From (s : List ℕ) (i : ℕ) (a : List ℕ) (j : ℕ) : Type 0 where
-  is : drop i s ≡ a ++ drop j s
-
-then : {s a b : List ℕ} {i j k : ℕ} → From s i a j → From s j b k → From s i (a ++ b) k
-then {s} {a} {b} {i} {j} {k} e f = record {
-  is = e .is ∙ ap (λ (l : List ℕ). a ++ l) (f .is) ∙ sym (append-assoc a b (drop k s));
-}
-
 module _ (s : List ℕ) (all : EachByte s) where
-  two-at : (i j : ℕ) → i + 2 ≡ j → j ≤ length s → From s i (bytes 2 (u16At s i)) j
-  two-at i j e h = record { is = rw (← e) (two-there s i all (omega arith)) }
-
-  four-at : (i j : ℕ) → i + 4 ≡ j → j ≤ length s → From s i (bytes 4 (u32At s i)) j
-  four-at i j e h = record { is = rw (← e) (four-there s i all (omega arith)) }
-
   -- a row's fields: its nodes are those of its arcs less 1
   row-there : (r n : ℕ) → n ≡ 24 + 12 * r → n ≤ length s
       → From s (12 + 12 * r) (rowBytes (fieldsOf (lengthArc s r) (weightArc s r))) n
@@ -41,10 +26,10 @@ module _ (s : List ℕ) (all : EachByte s) where
       rw (a, b)
       (then
       (then
-      (then (two-at (12 + 12 * r) (14 + 12 * r) (omega arith) (omega arith))
-      (two-at (14 + 12 * r) (16 + 12 * r) (omega arith) (omega arith)))
-      (four-at (16 + 12 * r) (20 + 12 * r) (omega arith) (omega arith)))
-      (four-at (20 + 12 * r) n (omega arith) h))
+      (then (two-at s all (12 + 12 * r) (14 + 12 * r) (omega arith) (omega arith))
+      (two-at s all (14 + 12 * r) (16 + 12 * r) (omega arith) (omega arith)))
+      (four-at s all (16 + 12 * r) (20 + 12 * r) (omega arith) (omega arith)))
+      (four-at s all (20 + 12 * r) n (omega arith) h))
 
   rows-there : (m n : ℕ) → n ≡ 12 + 12 * m → n ≤ length s
       → From s 12 (rowsBytes (fieldsUpTo (lengthArc s) (weightArc s) m)) n
@@ -67,7 +52,7 @@ module _ (s : List ℕ) (all : EachByte s) where
   spare-there h z = one-at 7 8 0 refl h z
 
   version-there : 5 ≤ length s → versionOf s ≡ 1 → From s 3 (bytes 2 1) 5
-  version-there h v = rw v at (two-at 3 5 refl h)
+  version-there h v = rw v at (two-at s all 3 5 refl h)
 
   header-there : 12 ≤ length s → Lettered s → versionOf s ≡ 1 → byteAt s 7 ≡ 0
       → From s 0 (headerBytes (nodesOf s) (boundOf s)) 12
@@ -75,9 +60,10 @@ module _ (s : List ℕ) (all : EachByte s) where
   header-there h l v z =
       then
       (then
-      (then (then (letters-there (omega arith) l) (version-there (omega arith) v)) (two-at 5 7 refl (omega arith)))
+      (then (then (letters-there (omega arith) l) (version-there (omega arith) v))
+      (two-at s all 5 7 refl (omega arith)))
       (spare-there (omega arith) z))
-      (four-at 8 12 refl h)
+      (four-at s all 8 12 refl h)
 
   -- THE TABLE, WHOLE
   pub made-anew : (m : ℕ) → length s ≡ 12 + 12 * m → Lettered s → versionOf s ≡ 1 → byteAt s 7 ≡ 0

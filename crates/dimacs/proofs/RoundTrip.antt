@@ -29,7 +29,6 @@ use Rattle.dimacs.specs.Read.{readRefusal, GivesTable, Trades, ReadOf}
 use Rattle.dimacs.specs.Write.{Wrote, writeRefusal, GivesTexts, WriteOf}
 use Rattle.dimacs.specs.declared.ReadAnswer.{ReadAnswer}
 use Rattle.dimacs.specs.declared.ReadAnswer.the-variants as read
-use Rattle.dimacs.specs.declared.WriteAnswer.{WriteAnswer}
 use Rattle.dimacs.specs.declared.WriteAnswer.the-variants as write
 use Rattle.dimacs.proofs.Anew.{made-anew}
 use Rattle.dimacs.proofs.Apart.{rows-apart}

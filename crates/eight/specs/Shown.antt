@@ -19,6 +19,8 @@ use Rattle.window.specs.declared.WindowAnswer.{WindowAnswer}
 use Rattle.window.specs.declared.WindowAnswer.the-variants as window
 use Rattle.paging.specs.declared.Listed.{Listed}
 use Rattle.paging.specs.declared.Listed.the-variants as listed
+use Rattle.vetting.specs.declared.Vetted.{Vetted}
+use Rattle.vetting.specs.declared.Vetted.the-variants as vetted
 use Rattle.dimacs.specs.Write.{Wrote}
 use Rattle.dimacs.specs.declared.ReadAnswer.{ReadAnswer}
 use Rattle.dimacs.specs.declared.ReadAnswer.the-variants as read
@@ -58,6 +60,13 @@ headsInC (heads.Refused why, list) = refusalInC why list
 abbrev pub listingInC : Listed × List ℕ → Call
 listingInC (listed.Rows written left, rows) = inC 0 0 0 (pos written) (pos left) (pos 0) (pos 0) rows
 listingInC (listed.Refused why, rows) = refusalInC why rows
+
+-- the verdict, 1 for yes, 2 for a row at fault, 3 for a pair missing; the row; low, high
+abbrev pub vetInC : Vetted → Call
+vetInC vetted.Yes = inC 0 0 0 (pos 1) (pos 0) (pos 0) (pos 0) []
+vetInC (vetted.Fault row) = inC 0 0 0 (pos 2) (pos row) (pos 0) (pos 0) []
+vetInC (vetted.Missing low high) = inC 0 0 0 (pos 3) (pos 0) (pos low) (pos high) []
+vetInC (vetted.Refused why) = refusalInC why []
 
 -- how many changed; the marks
 abbrev pub changeInC : Change × List ℕ → Call

@@ -13,6 +13,7 @@ ghost use Rattle.eight.specs.Shown.{
   windowInC,
   headsInC,
   listingInC,
+  vetInC,
   changeInC,
   conversionInC,
   readInC,
@@ -25,6 +26,7 @@ ghost use Rattle.eight.specs.work.Room.{
   WindowRoom,
   HeadsRoom,
   PageRoom,
+  VetRoom,
   ChangeRoom,
   ConversionRoom,
   ReadRoom,
@@ -41,6 +43,7 @@ use paging::Listed;
 use pair::PairAnswer;
 use spines::HeadsAnswer;
 use tree::Acceptance;
+use vetting::Vetted;
 use window::WindowAnswer;
 
 // Acceptance: the refusal, or nodes, bound.
@@ -146,6 +149,19 @@ pub fn show_page(o: Listed, answer: &mut [i64; 8]) -> u8
         Listed::Rows { written, left } => {
             fill(answer, 0, 0, 0, written as i64, left as i64, 0, 0)
         }
+    }
+}
+
+// The verdict on a list: the refusal, or the verdict, row, low, high.
+pub fn show_vet(o: Vetted, answer: &mut [i64; 8]) -> u8
+    requires { ⌜ VetRoom o ⌝ }
+    ensures { λ r. ⌜ call r (now (answer .exit)) [] ≡ vetInC o ⌝ }
+{
+    match o {
+        Vetted::Refused(why) => refuse(why, answer),
+        Vetted::Yes => fill(answer, 0, 0, 0, 1, 0, 0, 0),
+        Vetted::Fault { row } => { fill(answer, 0, 0, 0, 2, row as i64, 0, 0) }
+        Vetted::Missing { low, high } => { fill(answer, 0, 0, 0, 3, 0, low as i64, high as i64) }
     }
 }
 

@@ -18,7 +18,8 @@ use Rattle.parts.specs.work.Lift.{keyLift, Low}
 use Rattle.parts.specs.work.Searched.{Cross, Searched}
 use Rattle.parts.specs.work.Searched as searched
 use Rattle.parts.proofs.Climbs.{Climbs, cross-climbs}
-use Rattle.layout.proofs.Chosen.{Lifted, Meet, Value, Met, Found, Chosen}
+use Rattle.layout.proofs.Chosen.{Lifted, Value, Met, Found, Chosen}
+use Rattle.layout.proofs.Meeting.{Meet}
 use Rattle.layout.specs.work.Laid.{Spots, Laid}
 use Rattle.layout.proofs.Numbers.{Numbering}
 use Rattle.layout.proofs.Numbers as numbers
@@ -42,7 +43,7 @@ module _ {n : ℕ} {parent order place spot stops heads parents names : List ℕ
     where
       low : (s : ℕ) → s < 4096 → Dec (s < n) → 2 * at l s ≤ keyLift
       low s b (yes c) =
-          numbers.by-place g m (λ s. 2 * at l s ≤ keyLift)
+          numbers.by-spot g m (λ s. 2 * at l s ≤ keyLift)
           (λ v bv. omega (arith, h .each v (omega arith) bv, o .low v bv)) s c
       low s b (no c) = omega (arith, h .rest s b (λ v i j q. omega (arith, q, spots-of .within v j)))
 
@@ -50,7 +51,7 @@ module _ {n : ℕ} {parent order place spot stops heads parents names : List ℕ
       (fw : Laid 0 n spot (λ v. at w v) heavy) where
     -- two climbs that meet by spots meet by nodes
     meet : (a b t : ℕ) → a < n → b < n → t < n → Climbs stops (at spot a) (at spot b) (at spot t)
-        → Meet n parent d w a b t
+        → Meet parent a b t
     meet a b t ba bb bt c = record {
       left = numbers.span-above g m t a bt ba (c .p-low) (omega (arith, c .p-high, numbers.stop-at g m t bt));
       right = numbers.span-above g m t b bt bb (c .q-low) (omega (arith, c .q-high, numbers.stop-at g m t bt));
@@ -72,7 +73,7 @@ module _ {n : ℕ} {parent order place spot stops heads parents names : List ℕ
                 pick (yes e) = absurd (o (numbers.spot-one g m z t (fits-up T ba l) bt (sym e)))
                 pick (no q) = omega arith
 
-    turn : {a b t : ℕ} → Meet n parent d w a b t → Meet n parent d w b a t
+    turn : {a b t : ℕ} → Meet parent a b t → Meet parent b a t
     turn h = record { left = h .right; right = h .left; first = λ z u o k l. h .first z u o l k }
 
     value : (a b x y : ℕ) (r : Best) → a < n → b < n → at spot a < at spot b → Pair a b x y → x < y
@@ -80,14 +81,14 @@ module _ {n : ℕ} {parent order place spot stops heads parents names : List ℕ
     value a b x y r ba bb l p o c =
         let k : Climbs stops (at spot a) (at spot b) (c .t) = cross-climbs stops heads parents n (numbers.numbered g m)
         (numbers.nested g m) names far heavy (at spot a) (at spot b) r c (spots-of .within b bb) in
-        numbers.by-place g m (λ s. s ≡ c .t → Value n parent d w x y r) (λ t bt e. at-node t bt e (rw (sym e) at k) p o)
+        numbers.by-spot g m (λ s. s ≡ c .t → Value n parent d w x y r) (λ t bt e. at-node t bt e (rw (sym e) at k) p o)
         (c .t) (omega (arith, k .p-low, spots-of .within a ba)) refl
       where
         at-node : (t : ℕ) → t < n → at spot t ≡ c .t → Climbs stops (at spot a) (at spot b) (at spot t) → {x y : ℕ}
             → Pair a b x y → x < y → Value n parent d w x y r
         at-node t bt e k = pick
           where
-            h : Meet n parent d w a b t
+            h : Meet parent a b t
             h = meet a b t ba bb bt k
 
             w-all : r .weight + 2 * at w t ≡ keyLift + at w a + at w b
@@ -158,8 +159,8 @@ module _ {n : ℕ} {parent order place spot stops heads parents names : List ℕ
 
       found : searched.Found stops heads parents names far heavy 0 n Within r → Found n parent d w Within r
       found u =
-          numbers.by-place g m (λ p. p ≡ u .p → Found n parent d w Within r)
-          (λ a ba ea. numbers.by-place g m (λ q. q ≡ u .q → Found n parent d w Within r)
+          numbers.by-spot g m (λ p. p ≡ u .p → Found n parent d w Within r)
+          (λ a ba ea. numbers.by-spot g m (λ q. q ≡ u .q → Found n parent d w Within r)
           (λ b bb eb. side a b ba bb ea eb (decLt a b)) (u .q) (u .q-high) refl)
           (u .p) (omega (arith, u .p-q, u .q-high)) refl
         where

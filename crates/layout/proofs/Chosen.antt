@@ -2,29 +2,23 @@
 -- net. d and w are each node's distance and lifted weight from the root.
 use Prim.Native.Nat.{ℕ, _+_, _*_, _≤_, _<_}
 use mathlib.Core.Path.{_≡_}
-use mathlib.Core.Logic.{_⊎_, _≢_}
+use mathlib.Core.Logic.{_⊎_}
 use mathlib.Core.List.{List}
 use Rattle.arrays.specs.At.{at}
-use Rattle.net.specs.work.Rooted.{Above}
 use Rattle.spans.specs.work.Pairs.{best4, Le}
 use Rattle.spans.specs.declared.across.Best.{Best}
 use Rattle.parts.specs.work.Lift.{keyLift}
+use Rattle.layout.proofs.Meeting.{Meet}
 
 -- twice what stands at a node is at most the lift
 pub record Lifted (n : ℕ) (d : List ℕ) : Type 0 where
   pub low : (x : ℕ) → x < n → 2 * at d x ≤ keyLift
 
 module _ (n : ℕ) (parent d w : List ℕ) where
-  -- the climbs of x and y meet first at t
-  pub record Meet (x y t : ℕ) : Type 0 where
-    pub left : Above (at parent) t x
-    pub right : Above (at parent) t y
-    pub first : (z : ℕ) → Above (at parent) t z → z ≢ t → Above (at parent) z y → ¬ Above (at parent) z x
-
   -- what the pair of x and y weighs and measures, lifted
   pub record Value (x y : ℕ) (b : Best) : Type 0 where
     pub t : ℕ
-    pub meet : Meet x y t
+    pub meet : Meet parent x y t
     pub weight : b .weight + 2 * at w t ≡ keyLift + at w x + at w y
     pub length : b .length + 2 * at d t ≡ keyLift + at d x + at d y
     pub low : b .low ≡ x

@@ -106,11 +106,8 @@ module _ {n : ℕ} {parent order place spot stops heads parents names : List ℕ
   kid : (v : ℕ) → v < n → v ≢ 0 → Child n (at parent) (at parent v) v
   kid v b z = record { fits = b; low = z; of = refl }
 
-  -- a fact of every node's spot is one of every spot
-  pub by-place : (P : ℕ → Type 0) → ((v : ℕ) → v < n → P (at spot v)) → (s : ℕ) → s < n → P s
-  by-place P f s b =
-      let t = spots.everywhere g (m .headed) (m .sized) (m .seated) s b in
-      rw (t .2) at (f (t .0) (t .1 .0))
+  pub by-spot : (P : ℕ → Type 0) → ((v : ℕ) → v < n → P (at spot v)) → (s : ℕ) → s < n → P s
+  by-spot = spots.by-spot g (m .headed) (m .sized) (m .seated)
 
   not-root : (v : ℕ) → 0 < at spot v → v ≢ 0
   not-root v h e = omega (arith, root, ap (at spot) e)
@@ -128,11 +125,10 @@ module _ {n : ℕ} {parent order place spot stops heads parents names : List ℕ
   head-at : (v : ℕ) → v < n → at heads (at spot v) ≡ at spot (at (m .head) v)
   head-at v b = pick (ℕ-discrete v 0)
     where
-      apart : (x : ℕ) → 1 ≤ x → x < n → at spot x ≢ 0
-      apart x l c e = omega (arith, spot-one x 0 c (g .some .0) (e ∙ sym root))
-
       pick : Dec (v ≡ 0) → at heads (at spot v) ≡ at spot (at (m .head) v)
-      pick (yes e) = rw (e, head-root g (m .headed), root) (m .top .rest 0 (omega arith) apart)
+      pick (yes e) =
+          rw (e, head-root g (m .headed), root)
+          (m .top .rest 0 (omega arith) (spots.off-root g (m .headed) (m .sized) (m .seated)))
       pick (no z) = m .top .each v (omega arith) b
 
   -- the child of p that begins where x, below p, stands, if nothing of another child lies before
@@ -204,19 +200,19 @@ module _ {n : ℕ} {parent order place spot stops heads parents names : List ℕ
         within = g .some .1;
         all = rw root at (stop-at 0 (g .some .0)) ∙ (omega (arith, all-in, root));
         top = rw (head-root g (m .headed), root) at (head-at 0 (g .some .0));
-        grows = by-place (λ s. s < at stops s) (λ v b. omega (arith, stop-at v b, size-some v b));
-        ends = by-place (λ s. at stops s ≤ n) (λ v b. omega (arith, stop-at v b, end-in v b));
-        heads = by-place (λ s. at heads s ≤ s)
+        grows = by-spot (λ s. s < at stops s) (λ v b. omega (arith, stop-at v b, size-some v b));
+        ends = by-spot (λ s. at stops s ≤ n) (λ v b. omega (arith, stop-at v b, end-in v b));
+        heads = by-spot (λ s. at heads s ≤ s)
             (λ v b. omega (arith, head-at v b, nest-up b (head-above (m .headed .each v b)) .0));
-        first = by-place (λ s. s + 1 < at stops s → at parents (s + 1) ≡ s) first-at;
-        inside = λ s o b. by-place (λ s. 0 < s → at stops s ≤ at stops (at parents s))
+        first = by-spot (λ s. s + 1 < at stops s → at parents (s + 1) ≡ s) first-at;
+        inside = λ s o b. by-spot (λ s. 0 < s → at stops s ≤ at stops (at parents s))
             (λ v b h. let z = not-root v h in omega (arith, stop-at v b, ends-at v b z, nest (kid v b z) .1)) s b o;
-        last = λ s o b. by-place
+        last = λ s o b. by-spot
             (λ s. 0 < s → at stops s ≡ at stops (at parents s) → at heads s ≡ at heads (at parents s))
             (λ v b h e. let z = not-root v h in last-at v b z (sym (stop-at v b) ∙ e ∙ ends-at v b z)) s b o;
-        own = λ s o b. by-place (λ s. 0 < s → at stops s < at stops (at parents s) → at heads s ≡ s)
+        own = λ s o b. by-spot (λ s. 0 < s → at stops s < at stops (at parents s) → at heads s ≡ s)
             (λ v b h l. let z = not-root v h in own-at v b z (omega (arith, l, stop-at v b, ends-at v b z))) s b o;
-        next = λ s o b. by-place
+        next = λ s o b. by-spot
             (λ s. 0 < s → at stops s < at stops (at parents s) → at parents (at stops s) ≡ at parents s)
             (λ v b h l.
             let z = not-root v h in
@@ -227,10 +223,10 @@ module _ {n : ℕ} {parent order place spot stops heads parents names : List ℕ
   pub nested : Nested stops parents n
   nested =
       record {
-        up = λ s o b. by-place (λ s. 0 < s → at parents s < s)
+        up = λ s o b. by-spot (λ s. 0 < s → at parents s < s)
             (λ v b h. let z = not-root v h in omega (arith, parent-at v b z, nest (kid v b z) .0)) s b o;
-        shut = λ k a l b h. by-place (λ k. k ≤ a → a < at stops k → at stops a ≤ at stops k)
-            (λ t c. by-place (λ a. at spot t ≤ a → a < at stops (at spot t) → at stops a ≤ at stops (at spot t))
+        shut = λ k a l b h. by-spot (λ k. k ≤ a → a < at stops k → at stops a ≤ at stops k)
+            (λ t c. by-spot (λ a. at spot t ≤ a → a < at stops (at spot t) → at stops a ≤ at stops (at spot t))
             (λ x d i j. omega (
               arith,
               stop-at t c,
@@ -239,8 +235,8 @@ module _ {n : ℕ} {parent order place spot stops heads parents names : List ℕ
             ))
             a b)
             k (omega arith) l h;
-        above = λ a k l b h. by-place (λ a. a < k → k < at stops a → a ≤ at parents k)
-            (λ t c. by-place (λ k. at spot t < k → k < at stops (at spot t) → at spot t ≤ at parents k)
+        above = λ a k l b h. by-spot (λ a. a < k → k < at stops a → a ≤ at parents k)
+            (λ t c. by-spot (λ k. at spot t < k → k < at stops (at spot t) → at spot t ≤ at parents k)
             (λ x d i j. over t x c d i (omega (arith, j, stop-at t c))) k b)
             a (omega arith) l h;
       }

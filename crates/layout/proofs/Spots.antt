@@ -150,6 +150,14 @@ module _ {n : ℕ} {parent order place head size spot next : List ℕ} (g : Grow
   pub everywhere : (s : ℕ) → s < n → (x : ℕ) × ((x < n) × Above (at parent) 0 x) × (at spot x ≡ s)
   everywhere s h = onto 0 s (g .some .0) (omega (arith, q .root)) (omega (arith, q .root, root-size))
 
+  -- a fact of every node's spot is one of every spot
+  pub by-spot : (P : ℕ → Type 0) → ((v : ℕ) → v < n → P (at spot v)) → (s : ℕ) → s < n → P s
+  by-spot P f s b = let t = everywhere s b in rw (t .2) at (f (t .0) (t .1 .0))
+
+  -- the root's spot is the root's alone
+  pub off-root : (v : ℕ) → 1 ≤ v → v < n → at spot v ≢ 0
+  off-root v l b e = omega (arith, spot-one v 0 b (g .some .0) (e ∙ sym (q .root)))
+
   pub spots-of : Spots n spot
   spots-of = record {
     some = g .some .0;

@@ -2,3 +2,4 @@
 pub mod BestPair
 pub mod Laid
 pub mod Seats
+pub mod Spotted

@@ -1,6 +1,7 @@
 // The nodes of a net numbered by spots, so that what is below a node is a span of spots and each spine's items follow
 // each other: a node, then the trees that hang from it one after the other, then the rest of its spine. seats.rt gives
-// each node its spot; laid.rt lays out arrays by spot; the lists of crate parts then find the best pair.
+// each node its spot; laid.rt lays out arrays by spot; the lists of crate parts then find the best pair, and the tables
+// of crate figures any pair's path.
 ghost use Prim.Native.Nat.{_<_};
 ghost use Rattle.reach.specs.work.Grown.{Grown};
 ghost use Rattle.net.specs.Value.{Value};
@@ -10,6 +11,7 @@ ghost use Rattle.limits.specs.work.Fits.{Fits};
 ghost use Rattle.layout.specs.work.BestPair.{BestPair};
 ghost use Rattle.layout.specs.work.Seats.{Seating};
 ghost use Rattle.layout.specs.work.Laid.{Layable, LaidOut};
+ghost use Rattle.layout.specs.work.Spotted.{Spotted};
 use crate::laid::lay_long;
 use crate::laid::lay_names;
 use crate::laid::lay_spots;
@@ -146,4 +148,55 @@ pub fn heaviest_pair(
             exact: limit.exact,
         },
     )
+}
+
+// Between crates: each node's spot, in spot, and by spot what tells the path between any two nodes: the spot of the
+// parent, left in order, and the distance and the lifted weight from node 0, left in bl and bw. What those held is
+// lost.
+pub fn spots_of(
+    parent: &[u16; 4096],
+    order: &mut [u16; 4096],
+    place: &[u16; 4096],
+    bl: &mut [u64; 4096],
+    bw: &mut [u64; 4096],
+    n: usize,
+    spot: &mut [u16; 4096],
+)
+    requires { ⌜ Ground n (now parent) (now order) (now place) (now bl) (now bw) ⌝ }
+    ensures { λ _. ⌜ ((g : Ground n (now (parent .entry)) (now (order .entry)) (now (place .entry)) (now (bl .entry))
+        (now (bw .entry)))
+        → Spotted (Value (g .u) (g .v) (g .k) (g .long) (g .heavy)) n (now (spot .exit)) (now (order .exit))
+        (now (bl .exit)) (now (bw .exit))) ⌝ }
+{
+    let mut head: [u16; 4096] = [0; 4096];
+    let mut size: [u16; 4096] = [0; 4096];
+    let mut next: [u16; 4096] = [0; 4096];
+    let mut d: [u64; 4096] = [0; 4096];
+    let mut w: [u64; 4096] = [0; 4096];
+    // next has the flags of the paths, then main children, then next free spots.
+    paths_from(
+        parent,
+        order,
+        place,
+        bl,
+        bw,
+        n,
+        0,
+        &mut next,
+        &mut d,
+        &mut w,
+    );
+    number(
+        parent,
+        order,
+        place,
+        n,
+        &mut head,
+        &mut size,
+        spot,
+        &mut next,
+    );
+    lay_spots(spot, parent, n, order);
+    lay_long(spot, &d, n, bl);
+    lay_long(spot, &w, n, bw);
 }

@@ -15,19 +15,14 @@ use Rattle.tree.specs.Accept.{Accepts}
 use Rattle.tree.specs.declared.Acceptance.the-variants.{Accepted}
 use Rattle.tree.specs.declared.Refusal.{Refusal}
 use Rattle.tree.proofs.Begins.{begins-rest}
-use Rattle.pages.specs.Listing.{Entry}
-use Rattle.pages.specs.Passes.{Qualifies}
 use Rattle.paging.specs.Paging.{listingRefusal}
 use Rattle.paging.specs.declared.Listed.the-variants.{Refused}
 use Rattle.paging.proofs.Demand3.{Lists, JoinsUp, demand-3}
+use Rattle.ground.specs.Considered.{Considered}
 use Rattle.ground.specs.PathOf.{PathOf}
 use Rattle.ground.proofs.Bounds.{passes-fits}
 use Rattle.listing.specs.Listing.{ListingWithin, ListingOf, ListingExactOf}
 use Rattle.listing.proofs.Only.{listing-page}
-
--- what a listing of the table s considers
-abbrev pub Considered : (ℕ → Type 0) → List ℕ → List ℕ → ℤ → Entry → Type 0
-Considered Within s marks floor = Qualifies (PathOf s marks (nodesOf s)) Within floor (nodesOf s)
 
 module _ (Within : ℕ → Type 0) (s marks : List ℕ) (floor : ℤ) where
   -- It is an operation that lists.
@@ -46,15 +41,16 @@ module _ (Within : ℕ → Type 0) (s marks : List ℕ) (floor : ℤ) where
         → ListingWithin Within s marks floor low high old (Refused why, bytes) → ⊥
     answered {old = old} h p = settled h (settled m (begins-rest (listingRefusal old) s a p))
 
-    joins-up : JoinsUp (ListingWithin Within s marks floor) (Considered Within s marks floor)
+    joins-up : JoinsUp (ListingWithin Within s marks floor) (Considered Within s marks (nodesOf s) floor)
     joins-up = demand-3 listing-lists (λ _ _ _ _ _ h p. answered h p)
 
 -- BOTH MODES: of an accepted table with a mark for each branch, the pairs within the bound, and those of exactly its
 -- length.
 module _ (s marks : List ℕ) (floor : ℤ)
     (a : Accepts s (Accepted (nodesOf s) (boundOf s))) (m : length marks ≡ nodesOf s - 1) where
-  pub listing-joins-up : JoinsUp (ListingOf s marks floor) (Considered (λ l. l ≤ boundOf s) s marks floor)
+  pub listing-joins-up : JoinsUp (ListingOf s marks floor) (Considered (λ l. l ≤ boundOf s) s marks (nodesOf s) floor)
   listing-joins-up = joins-up (λ l. l ≤ boundOf s) s marks floor a m
 
-  pub listing-exact-joins-up : JoinsUp (ListingExactOf s marks floor) (Considered (λ l. l ≡ boundOf s) s marks floor)
+  pub listing-exact-joins-up : JoinsUp (ListingExactOf s marks floor)
+      (Considered (λ l. l ≡ boundOf s) s marks (nodesOf s) floor)
   listing-exact-joins-up = joins-up (λ l. l ≡ boundOf s) s marks floor a m

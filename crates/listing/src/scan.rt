@@ -7,7 +7,7 @@ ghost use Rattle.limits.specs.work.Fits.{Fits};
 ghost use Rattle.pages.specs.Passes.{Qualifies};
 ghost use Rattle.pages.specs.Paged.{Paged};
 ghost use Rattle.paths.specs.work.Ground.{Ground};
-ghost use Rattle.ground.specs.PathOf.{PathOf};
+ghost use Rattle.ground.specs.Considered.{Considered};
 ghost use Rattle.ground.specs.work.Grounded.{ValueIn};
 use ground::grounded;
 use limits::Limit;
@@ -71,7 +71,7 @@ pub(crate) fn page(
     rows: &mut [u8],
 ) -> Count
     requires { ⌜ Net (now s) nodes ⌝ }
-    ensures { λ r. ⌜ Paged (Qualifies (PathOf (now (s .entry)) (now (marks .entry)) nodes) (Fits limit) floor nodes) low
+    ensures { λ r. ⌜ Paged (Considered (Fits limit) (now (s .entry)) (now (marks .entry)) nodes floor) low
         high (now (rows .entry)) (r .given) (r .left) (now (rows .exit)) ⌝ }
 {
     let mut bl: [u64; 4096] = [0; 4096];

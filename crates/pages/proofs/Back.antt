@@ -65,7 +65,7 @@ module _ (front : List ℕ) (e : Entry) (rest : List ℕ) (p : ℕ) (place : len
           ofZ-fits w64 (e .weight) (f .weight) .fits,
         )
 
-    bits-back : u64At (front ++ (row e ++ rest)) (p + 8) ≡ ofZ w64 (e .weight)
+    pub bits-back : u64At (front ++ (row e ++ rest)) (p + 8) ≡ ofZ w64 (e .weight)
     bits-back = omega (arith, lower-back, upper-back)
 
     weight-back : toZ w64 (u64At (front ++ (row e ++ rest)) (p + 8)) ≡ e .weight

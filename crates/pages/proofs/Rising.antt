@@ -1,9 +1,10 @@
--- Rising lists: their parts, two joined, and that the same members make the same list.
+-- Rising lists: their parts, two joined, that the same members make the same list, and that none has a pair twice.
 use mathlib.Core.Path.{_≡_, refl, sym, _∙_}
 use mathlib.Core.Logic.{_⊎_, inl, inr}
 use mathlib.Core.List.{List, [], _∷_, _++_}
-use Rattle.arrays.specs.Members.{In, at, past}
-use Rattle.pages.specs.Listing.{Entry, Before, Rising, none, more}
+use native.Mathlib.Omega.{arith}
+use Rattle.arrays.specs.Members.{In, at, past, Distinct}
+use Rattle.pages.specs.Listing.{Entry, first, second, Before, Rising, none, more}
 use Rattle.pages.proofs.Order.{after-self, after-both}
 use Rattle.arrays.proofs.Members.{not-nil, in-cases, in-left, in-right, in-either}
 
@@ -62,3 +63,19 @@ same-list (x ∷ l) (y ∷ m) r q f g =
     back : (e : Entry) → In e m → (e ≡ x) ⊎ In e l → In e l
     back e h (inl p) = absurd (after-self (rw (p ∙ heads) at (rising-head q e h)))
     back e h (inr k) = k
+
+-- no entry stands twice in one, and no pair
+pub rising-distinct : {l : List Entry} → Rising l → Distinct l
+rising-distinct none = tt
+rising-distinct (more f r) = (λ h. after-self (f _ h), rising-distinct r)
+
+before-other : (e f : Entry) → Before e f → e .low ≡ f .low → e .high ≡ f .high → ⊥
+before-other e f (first a) p q = omega arith
+before-other e f (second a b) p q = omega arith
+
+pub rising-pair : {l : List Entry} → Rising l → (e f : Entry) → In e l → In f l → e .low ≡ f .low → e .high ≡ f .high
+    → e ≡ f
+rising-pair (more b r) e f (at u) (at v) p q = u ∙ sym v
+rising-pair (more b r) e f (at u) (past k) p q = absurd (before-other e f (rw (← u) at (b f k)) p q)
+rising-pair (more b r) e f (past h) (at v) p q = absurd (before-other f e (rw (← v) at (b e h)) (sym p) (sym q))
+rising-pair (more b r) e f (past h) (past k) p q = rising-pair r e f h k p q

@@ -34,8 +34,8 @@ pub struct Count {
     pub left: usize,
 }
 
-// The 64 bits of the signed number that x stands for.
-fn bits(x: u64) -> u64
+// Between crates: the 64 bits of the signed number that x stands for.
+pub fn bits(x: u64) -> u64
     requires { ⌜ x < 17179869184 ⌝ }
     ensures { λ r. ⌜ r ≡ ofZ w64 (lower x) ⌝ }
 {
@@ -81,8 +81,8 @@ fn add(out: &mut [u8], room: usize, a: usize, b: usize, l: u64, x: u64, c: Count
     }
 }
 
-// Whether a key fits the limit and a lifted weight is one that passes.
-fn passes(y: u64, x: u64, limit: Limit, sums: Sums) -> bool
+// Between crates: whether a key fits the limit and a lifted weight is one that passes.
+pub fn passes(y: u64, x: u64, limit: Limit, sums: Sums) -> bool
     ensures { λ r. ⌜ Decides (Fits limit y × InSums sums x) r ⌝ }
 {
     if x < sums.floor {

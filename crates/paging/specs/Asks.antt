@@ -1,6 +1,6 @@
 -- A caller that asks for one list, call after call, of any operation that lists.
 use Prim.Native.Nat.{ℕ, _+_, _-_, _*_, _≤_, _<_}
-use mathlib.Core.List.{List, _++_}
+use mathlib.Core.List.{List, [], _∷_, _++_}
 use lib.ListN.{length, take}
 use Rattle.table.specs.Bytes.{u16At}
 use Rattle.paging.specs.declared.Listed.{Listed}
@@ -23,3 +23,9 @@ pub data Asks (Call : ℕ → ℕ → List ℕ → Listed × List ℕ → Type 0
       → Call low high old (Rows written left, bytes) → 0 < left
       → Asks Call (lastLow written bytes) (lastHigh written bytes) later
       → Asks Call low high (take (16 * written) bytes ++ later)
+
+-- the pages of these calls, the bytes that each wrote
+abbrev pub pagesOf : {Call : ℕ → ℕ → List ℕ → Listed × List ℕ → Type 0} {low high : ℕ} {joined : List ℕ}
+    → Asks Call low high joined → List (List ℕ)
+pagesOf (last {written = w} {bytes = b} h p) = take (16 * w) b ∷ []
+pagesOf (next {written = w} {bytes = b} h p l r) = take (16 * w) b ∷ pagesOf r

@@ -1,5 +1,5 @@
--- NO ANSWER TELLS OF A COMMIT: pair, heaviest and listing, these two in both modes, window and window_list answer after
--- a commit as they did before it, whether it was refused or not. The marks before and after are free at the same
+-- NO ANSWER TELLS OF A COMMIT: pair, heaviest and listing, these two in both modes, window, window_list and vet answer
+-- after a commit as they did before it, whether it was refused or not. The marks before and after are free at the same
 -- places, and who holds or has spent a branch never shows. It stands in this crate, which sees all of these operations.
 use Prim.Native.Nat.{ℕ}
 use mathlib.Core.Path.{_≡_, sym}
@@ -22,6 +22,9 @@ use Rattle.window.specs.Window.{Window, WindowOf}
 use Rattle.window.specs.List.{WindowListOf}
 use Rattle.window.specs.declared.WindowAnswer.{WindowAnswer}
 use Rattle.window.proofs.Holders.{window-holders-never-show, window-list-holders-never-show}
+use Rattle.vetting.specs.declared.Vetted.{Vetted}
+use Rattle.vet.specs.Vet.{VetOf}
+use Rattle.vet.proofs.Holders.{vet-holders-never-show}
 
 -- o is what the commit leaves: its answer, and the marks
 module _ (s before : List ℕ) {run : ℕ} (o : Change × List ℕ) (p : Commits s before run o) where
@@ -50,3 +53,7 @@ module _ (s before : List ℕ) {run : ℕ} (o : Change × List ℕ) (p : Commits
     pub window-list-after-commit : (low high : ℕ) (old : List ℕ) (x y : Listed × List ℕ)
         → WindowListOf s before w low high old x → WindowListOf s (o .1) w low high old y → x ≡ y
     window-list-after-commit = window-list-holders-never-show s before (o .1) (left .so) (sym (left .same-many)) w
+
+  pub vet-after-commit : (floor : ℤ) (list : List ℕ) (x y : Vetted) → VetOf s before floor list x
+      → VetOf s (o .1) floor list y → x ≡ y
+  vet-after-commit = vet-holders-never-show s before (o .1) (left .so) (sym (left .same-many))

@@ -7,6 +7,7 @@ use native.Mathlib.Omega.{arith}
 use lib.IntN.{ℤ}
 use lib.ListN.{length}
 use lib.Signed.{_≤ℤ_}
+use Rattle.table.specs.Header.{nodesOf}
 use Rattle.table.proofs.Refusals.{unless-both}
 use Rattle.table.proofs.Order.{≤ℤ-trans}
 use Rattle.tree.specs.declared.Refusal.{Refusal}
@@ -20,14 +21,15 @@ use Rattle.paging.specs.Asks.{Asks}
 use Rattle.paging.specs.declared.Listed.{Listed}
 use Rattle.paging.specs.declared.Listed.the-variants.{Rows, Refused}
 use Rattle.paging.proofs.Demand3.{there-is, join-up, loses-nothing}
+use Rattle.ground.specs.Considered.{Considered}
 use Rattle.listing.specs.Listing.{ListingWithin}
-use Rattle.listing.proofs.Demand3.{Considered, listing-lists}
+use Rattle.listing.proofs.Demand3.{listing-lists}
 use Rattle.relaxing.specs.Relaxed.{Sublist, rowsIn}
 use Rattle.relaxing.proofs.Sublists.{listing-sublist}
 
 -- the rows of joined calls are the listing
-asked-rows : (Within : ℕ → Type 0) (s marks : List ℕ) (floor : ℤ) {joined : List ℕ} {l : List Entry}
-    → Asks (ListingWithin Within s marks floor) 0 0 joined → Listing (Considered Within s marks floor) l
+pub asked-rows : (Within : ℕ → Type 0) (s marks : List ℕ) (floor : ℤ) {joined : List ℕ} {l : List Entry}
+    → Asks (ListingWithin Within s marks floor) 0 0 joined → Listing (Considered Within s marks (nodesOf s) floor) l
     → rowsIn joined ≡ l
 asked-rows Within s marks floor {joined} {l} a w =
     ap (entries joined 0) many ∙ loses-nothing (listing-lists Within s marks floor) a w
@@ -36,11 +38,12 @@ asked-rows Within s marks floor {joined} {l} a w =
     many = omega (arith, ap length (join-up (listing-lists Within s marks floor) a w), rows-length l)
 
 module _ (Within : ℕ → Type 0) (s marks : List ℕ) {floor lower : ℤ} (h : lower ≤ℤ floor) where
-  qualifies-too : (e : Entry) → Considered Within s marks floor e → Considered Within s marks lower e
+  qualifies-too : (e : Entry) → Considered Within s marks (nodesOf s) floor e
+      → Considered Within s marks (nodesOf s) lower e
   qualifies-too e = passes-map (λ q. q) (λ q. q) (λ k. ≤ℤ-trans h k)
 
-  pub lower-floor-list : {l m : List Entry} → Listing (Considered Within s marks floor) l
-      → Listing (Considered Within s marks lower) m → Sublist l m
+  pub lower-floor-list : {l m : List Entry} → Listing (Considered Within s marks (nodesOf s) floor) l
+      → Listing (Considered Within s marks (nodesOf s) lower) m → Sublist l m
   lower-floor-list = listing-sublist qualifies-too
 
   pub lower-floor-rows : {joined joined′ : List ℕ} → Asks (ListingWithin Within s marks floor) 0 0 joined

@@ -1,5 +1,5 @@
--- What an answer has room for: the three numbers of a refusal, a listing's counts, and the sizes of a table and of
--- texts, as signed numbers of 64 bits.
+-- What an answer has room for: the three numbers of a refusal, a listing's counts, the row of a list, and the sizes of
+-- a table and of texts, as signed numbers of 64 bits.
 use Prim.Native.Nat.{ℕ, _+_, _≤_, _<_}
 use Rattle.tree.specs.declared.Acceptance.{Acceptance}
 use Rattle.tree.specs.declared.Acceptance.the-variants as acceptance
@@ -17,6 +17,8 @@ use Rattle.window.specs.declared.WindowAnswer.{WindowAnswer}
 use Rattle.window.specs.declared.WindowAnswer.the-variants as window
 use Rattle.paging.specs.declared.Listed.{Listed}
 use Rattle.paging.specs.declared.Listed.the-variants as listed
+use Rattle.vetting.specs.declared.Vetted.{Vetted}
+use Rattle.vetting.specs.declared.Vetted.the-variants as vetted
 use Rattle.dimacs.specs.declared.ReadAnswer.{ReadAnswer}
 use Rattle.dimacs.specs.declared.ReadAnswer.the-variants as read
 use Rattle.dimacs.specs.declared.WriteAnswer.{WriteAnswer}
@@ -60,6 +62,13 @@ ConversionRoom (conversion.Refused why) = Room (why .row) (why .ring)
 abbrev pub PageRoom : Listed → Type 0
 PageRoom (listed.Rows written left) = written + left < 9223372036854775808
 PageRoom (listed.Refused why) = Room (why .row) (why .ring)
+
+-- of a row at fault, a number of 63 bits
+abbrev pub VetRoom : Vetted → Type 0
+VetRoom vetted.Yes = Unit {0}
+VetRoom (vetted.Fault row) = row < 9223372036854775808
+VetRoom (vetted.Missing low high) = Unit {0}
+VetRoom (vetted.Refused why) = Room (why .row) (why .ring)
 
 -- of a table made and of texts written, sizes of 63 bits
 abbrev pub ReadRoom : ReadAnswer → Type 0

@@ -1,4 +1,4 @@
--- Working statements of the private functions of laid.rt and lib.rt, and no part of the promises: arrays by spot.
+-- What the functions of laid.rt and lib.rt promise each other: spots, and arrays by spot.
 use Prim.Native.Nat.{ℕ, _+_, _≤_, _<_}
 use mathlib.Core.Path.{_≡_}
 use mathlib.Core.Logic.{_≢_}
