@@ -1,11 +1,13 @@
 /* Measures the library beside the plain scan: one run, the same tables, marks and buffers, lent to both. Writes the
    figures to standard output, the plot of heaviest, with the second argument below it, to the file that the first
    names, and how far it is to standard error. Ends with status 1 where the two give different answers, a window has no
-   pair, or a list is not vetted as it was made. */
+   pair, a list is not vetted as it was made, or an operation with a change set differs from the same one on the changed
+   table. */
 #include "hourbench.h"
 #include "lists.h"
 #include "nets.h"
 #include "scan.h"
+#include "sets.h"
 #include "timing.h"
 #include "trades.h"
 #include <math.h>
@@ -311,6 +313,7 @@ int main(int argc, char **argv) {
     print_modes();
     differ |= measure_lists();
     differ |= measure_trades();
+    differ |= measure_sets();
     printf("%s\n", differ ? "ANSWERS DIFFER, A WINDOW IS EMPTY, OR A LIST IS NOT VETTED AS IT WAS MADE"
                           : "All answers were equal.");
     plot(argv[1], argv[2]);

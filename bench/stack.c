@@ -1,6 +1,7 @@
 /* How much stack each operation takes: on a thread whose stack was painted, over the five nets of 4,096 nodes
-   in both versions and the same with a ring, over the texts of each net, of more arcs than a net has, and of a ring.
-   The most of all is told, and the most where no table has a ring. */
+   in both versions and the same with a ring, over the texts of each net, of more arcs than a net has, and of a ring;
+   with a change set over the same nets, of no entry and of every row. The most of all is told, and the most where no
+   table has a ring. */
 #include "hourbench.h"
 #include "nets.h"
 #include <pthread.h>
@@ -8,65 +9,101 @@
 #include <stdlib.h>
 #include <string.h>
 
-enum { STACK = 2 << 20, NODES = 4096, TEXT = 1 << 18, OPS = 17, PAINT = 0xA5 };
+enum { STACK = 2 << 20, NODES = 4096, BRANCHES = NODES - 1, TEXT = 1 << 18, PAINT = 0xA5, RUBBISH = 0xEE };
+enum { READ = 15, OPS = 17 }; /* READ, of texts, takes no set */
 static const char *names[OPS] = {"(the thread itself)", "hb_accept", "hb_pair", "hb_heaviest", "hb_heaviest_exact",
                                  "hb_heads", "hb_listing", "hb_listing_exact", "hb_window", "hb_window_list", "hb_vet",
                                  "hb_claim", "hb_commit", "hb_abort", "hb_convert", "hb_dimacs_read",
                                  "hb_dimacs_write"};
 static uint8_t table[12 * NODES], made[12 * NODES], page[65536], lengths[TEXT], weights[TEXT], text[TEXT], other[TEXT];
+static uint8_t frozen[12 * NODES], set[6 + 14 * BRANCHES];
 static uint8_t list[65536]; /* the listing's first rows */
 static uint16_t marks[NODES], heads[NODES];
 static size_t size, list_len, lengths_len, weights_len;
 
+/* What an operation is asked over: the table, or a table and a set. */
+typedef struct {
+    const uint8_t *table, *set; /* no set: NULL */
+    size_t set_len;
+} over;
+
+#define ASK(name, ...) \
+    (net->set ? hb_##name##_with(net->table, size, net->set, net->set_len, __VA_ARGS__) \
+              : hb_##name(net->table, size, __VA_ARGS__))
+
 /* A list whose rows are good and from which others are missing; the same with a row at fault; a list that is ours. */
-static void vet_lists(int64_t answer[8]) {
-    hb_vet(table, size, marks, NODES - 1, 0, list, list_len, answer);
+static void vet_lists(const over *net, int64_t answer[8]) {
+    ASK(vet, marks, BRANCHES, 0, list, list_len, answer);
     list[list_len - 16] ^= 1;
-    hb_vet(table, size, marks, NODES - 1, 0, list, list_len, answer);
+    ASK(vet, marks, BRANCHES, 0, list, list_len, answer);
     list[list_len - 16] ^= 1;
-    hb_vet(table, size, marks, NODES - 1, INT64_MAX, list, 0, answer);
+    ASK(vet, marks, BRANCHES, INT64_MAX, list, 0, answer);
+}
+
+static void ask(int op, const over *net) {
+    int64_t answer[8];
+    size_t m = BRANCHES;
+    switch (op) {
+    case 1: ASK(accept, answer); break;
+    case 2: ASK(pair, marks, m, 1, 2, answer); break;
+    case 3: ASK(heaviest, marks, m, answer); break;
+    case 4: ASK(heaviest_exact, marks, m, answer); break;
+    case 5: ASK(heads, heads, NODES, answer); break;
+    case 6: ASK(listing, marks, m, 0, 0, 0, page, sizeof page, answer); break;
+    case 7: ASK(listing_exact, marks, m, 0, 0, 0, page, sizeof page, answer); break;
+    case 8: ASK(window, marks, m, 1, NODES, INT64_MIN, INT64_MAX, answer); break;
+    case 9: ASK(window_list, marks, m, 1, NODES, INT64_MIN, INT64_MAX, 0, 0, page, sizeof page, answer); break;
+    case 10: vet_lists(net, answer); break;
+    case 11: ASK(claim, marks, m, 7, 1, 2, answer); break;
+    case 12: ASK(commit, marks, m, 7, answer); break;
+    case 13: ASK(abort, marks, m, 7, answer); break;
+    case 14: ASK(convert, marks, m, answer); break;
+    case READ: hb_dimacs_read(lengths, lengths_len, weights, weights_len, 0, made, sizeof made, answer); break;
+    case 16: ASK(dimacs_write, text, TEXT, other, TEXT, answer); break;
+    }
 }
 
 static void *call(void *which) {
-    int64_t answer[8];
-    size_t m = NODES - 1;
-    switch (*(int *)which) {
-    case 1: hb_accept(table, size, answer); break;
-    case 2: hb_pair(table, size, marks, m, 1, 2, answer); break;
-    case 3: hb_heaviest(table, size, marks, m, answer); break;
-    case 4: hb_heaviest_exact(table, size, marks, m, answer); break;
-    case 5: hb_heads(table, size, heads, NODES, answer); break;
-    case 6: hb_listing(table, size, marks, m, 0, 0, 0, page, sizeof page, answer); break;
-    case 7: hb_listing_exact(table, size, marks, m, 0, 0, 0, page, sizeof page, answer); break;
-    case 8: hb_window(table, size, marks, m, 1, NODES, INT64_MIN, INT64_MAX, answer); break;
-    case 9:
-        hb_window_list(table, size, marks, m, 1, NODES, INT64_MIN, INT64_MAX, 0, 0, page, sizeof page, answer);
-        break;
-    case 10: vet_lists(answer); break;
-    case 11: hb_claim(table, size, marks, m, 7, 1, 2, answer); break;
-    case 12: hb_commit(table, size, marks, m, 7, answer); break;
-    case 13: hb_abort(table, size, marks, m, 7, answer); break;
-    case 14: hb_convert(table, size, marks, m, answer); break;
-    case 15: hb_dimacs_read(lengths, lengths_len, weights, weights_len, 0, made, sizeof made, answer); break;
-    case 16: hb_dimacs_write(table, size, text, TEXT, other, TEXT, answer); break;
-    }
+    int op = *(int *)which;
+    ask(op, &(over){table, NULL, 0});
     return NULL;
 }
 
-/* Each operation on the table as it stands. */
-static int take(uint8_t *stack, size_t most[OPS]) {
-    for (int op = 0; op < OPS; op++) {
+static void *call_with(void *which) {
+    int op = *(int *)which;
+    ask(op, &(over){table, set, 6});
+    memset(marks, 0, sizeof marks);
+    ask(op, &(over){frozen, set, sizeof set});
+    return NULL;
+}
+
+/* The set of every row of the table; the frozen table has rubbish in their place. */
+static void take_set(void) {
+    memcpy(frozen, table, 12), memset(frozen + 12, RUBBISH, sizeof frozen - 12);
+    memcpy(set, "RTN\1\0\1", 6);
+    for (size_t row = 0; row < BRANCHES; row++) {
+        uint8_t *entry = set + 6 + 14 * row;
+        entry[0] = (uint8_t)row, entry[1] = (uint8_t)(row >> 8);
+        memcpy(entry + 2, table + 12 + 12 * row, 12);
+    }
+}
+
+/* Each operation on the table as it stands, without a set and with one. */
+static int take(uint8_t *stack, size_t most[2][OPS]) {
+    take_set();
+    for (int i = 0; i < 2 * OPS; i++) {
+        int op = i / 2, with = i % 2;
         pthread_attr_t how;
         pthread_t thread;
         memset(stack, PAINT, STACK);
         memset(marks, 0, sizeof marks);
         pthread_attr_init(&how);
         pthread_attr_setstack(&how, stack, STACK);
-        if (pthread_create(&thread, &how, call, &op)) return 2;
+        if (pthread_create(&thread, &how, with ? call_with : call, &op)) return 2;
         pthread_join(thread, NULL);
         size_t low = 0;
         while (low < STACK && stack[low] == PAINT) low++;
-        if (STACK - low > most[op]) most[op] = STACK - low;
+        if (STACK - low > most[with][op]) most[with][op] = STACK - low;
     }
     return 0;
 }
@@ -89,7 +126,7 @@ static void take_ring(void) {
 }
 
 int main(void) {
-    size_t most[OPS] = {0}, ringed[OPS] = {0};
+    size_t most[2][OPS] = {0}, ringed[2][OPS] = {0};
     uint8_t *stack = aligned_alloc(4096, STACK);
     for (int net = 0; net < 2 * SHAPES; net++) {
         int64_t answer[8];
@@ -109,10 +146,16 @@ int main(void) {
     size = make_net(0, NODES, VARIED, table);
     take_all_pairs();
     if (take(stack, most)) return 2;
-    printf("| operation | stack, KiB | without a ring |\n|---|---|---|\n");
-    for (int op = 1; op < OPS; op++)
-        printf("| `%s` | %zu | %zu |\n", names[op],
-               ((most[op] > ringed[op] ? most[op] : ringed[op]) - most[0] + 1023) / 1024,
-               (most[op] - most[0] + 1023) / 1024);
+    printf("| operation | stack, KiB | without a ring | with a change set | that without a ring |\n"
+           "|---|---|---|---|---|\n");
+    for (int op = 1; op < OPS; op++) {
+        printf("| `%s` |", names[op]);
+        for (int with = 0; with < 2; with++) {
+            size_t own = most[with][0], all = most[with][op], rings = ringed[with][op];
+            if (with && op == READ) printf(" | |");
+            else printf(" %zu | %zu |", ((all > rings ? all : rings) - own + 1023) / 1024, (all - own + 1023) / 1024);
+        }
+        printf("\n");
+    }
     return 0;
 }

@@ -41,6 +41,13 @@
              with c is a comment; one line `p sp NODES ARCS` stands before all lines `a FROM TO NUMBER`. Nodes count
              from 1. Numbers have no leading zero, and a minus, in the weight text alone, only before a nonzero digit.
              Each branch is two opposite arcs with equal number, in any order
+   changes   a change set over a table that is frozen: the letters RTN; version, 16 bits, 1 whichever the table has; one
+             byte, 1, its sort; then entries of 14 bytes each: a row number, 16 bits, and the row's 12 bytes in the
+             table's own version. Row numbers rise from entry to entry and are below n - 1. The changed table has each
+             row that an entry names as the entry has it and all else as the table has it. Every answer of a function
+             that takes a set equals that for the changed table: all of its rows are tested, so that a bad row that is
+             replaced passes. A set of 6 bytes changes nothing; none of more than 6 + 14 x 4,095 = 57,336 bytes is
+             good. Table and set are only read. Where its length is 0 a set may be the address of anything, and is 33
    window    two limits of a branch count, 32 bits unsigned, and two sums of a weight, 64 bits signed: any numbers, and
              nothing wraps. A pair is in the window if its path has count_low to count_high branches and weighs, under
              the marks, sum_low to sum_high, all four ends taken in. Its length and the bound play no part
@@ -70,7 +77,10 @@
        30  the lower count limit is 0, or above the upper one, or the lower sum above the upper one
        31  no pair in the window
        32  the list's size is no multiple of 16
-   Every function but hb_dimacs_read begins with 1 to 11; for rows of version 2, 22 and then 23 stand where 10 does. */
+       33  the change set: letters not RTN, version or sort not 1, or a size other than 6 plus a multiple of 14
+       34  the change set: a row number not above the one before it, or not below n - 1
+   Every function but hb_dimacs_read begins with 1 to 11; for rows of version 2, 22 and then 23 stand where 10 does.
+   With a change set 33 and then 34, which name no row, stand between 6 and 7, and 7 to 11 are the changed table's. */
 #ifndef HOURBENCH_H
 #define HOURBENCH_H
 
@@ -78,9 +88,9 @@
 #include <stdint.h>
 
 /* The library's version; CHANGES.md says how it moves. */
-#define HB_VERSION "1.8.0"
+#define HB_VERSION "1.9.0"
 #define HB_VERSION_MAJOR 1
-#define HB_VERSION_MINOR 8
+#define HB_VERSION_MINOR 9
 #define HB_VERSION_PATCH 0
 
 /* Of a mark: HB_RUN, the run by which its branch is held or spent, 0 where free; HB_SPENT, whether it is spent. */
@@ -176,6 +186,48 @@ uint8_t hb_dimacs_read(const uint8_t *lengths, size_t lengths_len, const uint8_t
    one of the texts: then nothing is written for the other either. */
 uint8_t hb_dimacs_write(const uint8_t *table, size_t table_len, uint8_t *lengths, size_t lengths_len,
                         uint8_t *weights, size_t weights_len, int64_t *answer);
+
+/* With a change set: each as the function without _with, of the table with the set's rows written in. Its other memory
+   and numbers, its fields and, but for 33 and 34, its refusals are as that function has them. */
+uint8_t hb_accept_with(const uint8_t *table, size_t table_len, const uint8_t *changes, size_t changes_len,
+                       int64_t *answer);
+uint8_t hb_pair_with(const uint8_t *table, size_t table_len, const uint8_t *changes, size_t changes_len,
+                     const uint16_t *marks, size_t marks_len, uint16_t a, uint16_t b, int64_t *answer);
+uint8_t hb_heaviest_with(const uint8_t *table, size_t table_len, const uint8_t *changes, size_t changes_len,
+                         const uint16_t *marks, size_t marks_len, int64_t *answer);
+uint8_t hb_heaviest_exact_with(const uint8_t *table, size_t table_len, const uint8_t *changes, size_t changes_len,
+                               const uint16_t *marks, size_t marks_len, int64_t *answer);
+uint8_t hb_heads_with(const uint8_t *table, size_t table_len, const uint8_t *changes, size_t changes_len,
+                      uint16_t *heads, size_t heads_len, int64_t *answer);
+uint8_t hb_listing_with(const uint8_t *table, size_t table_len, const uint8_t *changes, size_t changes_len,
+                        const uint16_t *marks, size_t marks_len, int64_t floor, uint16_t from_low, uint16_t from_high,
+                        uint8_t *rows, size_t rows_len, int64_t *answer);
+uint8_t hb_listing_exact_with(const uint8_t *table, size_t table_len, const uint8_t *changes, size_t changes_len,
+                              const uint16_t *marks, size_t marks_len, int64_t floor,
+                              uint16_t from_low, uint16_t from_high, uint8_t *rows, size_t rows_len, int64_t *answer);
+uint8_t hb_window_with(const uint8_t *table, size_t table_len, const uint8_t *changes, size_t changes_len,
+                       const uint16_t *marks, size_t marks_len, uint32_t count_low, uint32_t count_high,
+                       int64_t sum_low, int64_t sum_high, int64_t *answer);
+uint8_t hb_window_list_with(const uint8_t *table, size_t table_len, const uint8_t *changes, size_t changes_len,
+                            const uint16_t *marks, size_t marks_len, uint32_t count_low, uint32_t count_high,
+                            int64_t sum_low, int64_t sum_high, uint16_t from_low, uint16_t from_high,
+                            uint8_t *rows, size_t rows_len, int64_t *answer);
+uint8_t hb_vet_with(const uint8_t *table, size_t table_len, const uint8_t *changes, size_t changes_len,
+                    const uint16_t *marks, size_t marks_len, int64_t floor, const uint8_t *list, size_t list_len,
+                    int64_t *answer);
+uint8_t hb_claim_with(const uint8_t *table, size_t table_len, const uint8_t *changes, size_t changes_len,
+                      uint16_t *marks, size_t marks_len, uint16_t run, uint16_t a, uint16_t b, int64_t *answer);
+uint8_t hb_commit_with(const uint8_t *table, size_t table_len, const uint8_t *changes, size_t changes_len,
+                       uint16_t *marks, size_t marks_len, uint16_t run, int64_t *answer);
+uint8_t hb_abort_with(const uint8_t *table, size_t table_len, const uint8_t *changes, size_t changes_len,
+                      uint16_t *marks, size_t marks_len, uint16_t run, int64_t *answer);
+uint8_t hb_convert_with(const uint8_t *table, size_t table_len, const uint8_t *changes, size_t changes_len,
+                        const uint16_t *marks, size_t marks_len, int64_t *answer);
+
+/* Of version 1 alone, as without a set: any other is 3, before 33. */
+uint8_t hb_dimacs_write_with(const uint8_t *table, size_t table_len, const uint8_t *changes, size_t changes_len,
+                             uint8_t *lengths, size_t lengths_len, uint8_t *weights, size_t weights_len,
+                             int64_t *answer);
 
 #ifdef __cplusplus
 }

@@ -1,4 +1,5 @@
 //! An ask: an operation and its numbers; what it answers; its line (README.md has the form of both).
+use crate::changes;
 use crate::net::{self, Lengths, Mark, Refused, Vetted, Window};
 
 /// What every lent byte and every lent head holds before a call.
@@ -57,13 +58,17 @@ pub const CODES: [(Op, u16); 22] = [
     (Op::Vet, 97),
 ];
 
-/// The text is what its line begins with. `lent` is how many bytes or heads are lent, or bytes of a list, `shown` how
-/// many elements of the lent memory the line shows; a and b are two nodes or a starting pair, x a row number, a bound,
-/// or the 64 bits of a floor or of a window's lower sum; its upper sum, and its lower and upper count limit, stand by
-/// themselves, and so does the list that is vetted.
+/// What is added to the code of an operation that is asked with the case's change set.
+pub const WITH: u16 = 128;
+
+/// The text is what its line begins with. `with` is whether it is asked with the case's change set. `lent` is how many
+/// bytes or heads are lent, or bytes of a list, `shown` how many elements of the lent memory the line shows; a and b
+/// are two nodes or a starting pair, x a row number, a bound, or the 64 bits of a floor or of a window's lower sum; its
+/// upper sum, and its lower and upper count limit, stand by themselves, and so does the list that is vetted.
 #[derive(Clone, PartialEq, Debug)]
 pub struct Ask {
     pub op: Op,
+    pub with: bool,
     pub text: String,
     pub lent: u16,
     pub shown: u16,
@@ -105,8 +110,23 @@ pub fn of_verdict(vetted: Vetted) -> Vec<i128> {
 
 impl Ask {
     pub fn new(op: Op, text: &str) -> Ask {
-        let text = text.to_string();
-        Ask { op, text, lent: 0, shown: 0, run: 0, a: 0, b: 0, x: 0, sum_high: 0, counts: [0, 0], list: vec![] }
+        let (with, text) = (false, text.to_string());
+        Ask { op, with, text, lent: 0, shown: 0, run: 0, a: 0, b: 0, x: 0, sum_high: 0, counts: [0, 0], list: vec![] }
+    }
+
+    /// Asked with the case's change set.
+    pub fn with_changes(self) -> Ask {
+        Ask { with: true, text: format!("with changes {}", self.text), ..self }
+    }
+
+    /// Is its operation one that takes a change set? Of a row's part that is the row shown.
+    pub fn takes_set(&self) -> bool {
+        match self.op {
+            Op::Open | Op::Examine | Op::NextRow | Op::FirstRow | Op::Row | Op::Reading | Op::Bound => false,
+            Op::RowPart | Op::Accept | Op::Pair | Op::Heaviest | Op::HeaviestExact | Op::Convert | Op::Window => true,
+            Op::Listing | Op::ListingExact | Op::WindowList | Op::Heads => true,
+            Op::Claim | Op::Commit | Op::Abort | Op::Vet => true,
+        }
     }
 
     /// With the numbers of a window.
@@ -152,18 +172,15 @@ impl Ask {
         line
     }
 
-    /// What the documents say to it. Claim, commit and abort change the marks, a bound changes the table.
-    pub fn answer(&self, t: &mut [u8], marks: &mut [u16]) -> Said {
-        let mut rows = vec![LENT; self.lent as usize];
-        let mut heads = vec![LENT as u16; self.lent as usize];
-        let wide = |bytes: &[u8]| Some(bytes.iter().map(|b| *b as u16).collect());
+    /// The operation's fields, of a table, and what it does to the lent memory and to the marks.
+    fn fields(&self, t: &[u8], marks: &mut [u16], rows: &mut [u8], heads: &mut [u16]) -> Result<Vec<i128>, Refused> {
         let run = |(a, b, length, weight)| vec![a as i128, b as i128, length as i128, weight as i128];
         let listed = |(written, left)| vec![written as i128, left as i128];
-        let mut page = |lengths| net::listing(t, marks, lengths, self.x as i64, (self.a, self.b), &mut rows);
-        let fields = match self.op {
+        let mut page = |lengths| net::listing(t, marks, lengths, self.x as i64, (self.a, self.b), rows);
+        match self.op {
             Op::Open => net::open(t).map(|(n, bound)| vec![n as i128, bound as i128]),
             Op::Examine => net::examine(t).map(|(n, bound, _)| vec![n as i128, bound as i128]),
-            Op::RowPart | Op::FirstRow => Ok(vec![]),
+            Op::RowPart | Op::FirstRow | Op::Bound => Ok(vec![]),
             Op::NextRow => Ok(vec![net::next(t, self.x) as i128]),
             Op::Row => {
                 let row = net::decoded(t, self.x);
@@ -179,18 +196,31 @@ impl Ask {
                 .map(|(a, b, count, weight)| vec![a as i128, b as i128, count as i128, weight as i128]),
             Op::Listing => page(Lengths::AtMost).map(listed),
             Op::ListingExact => page(Lengths::Exactly).map(listed),
-            Op::WindowList => net::window_list(t, marks, self.window(), (self.a, self.b), &mut rows).map(listed),
-            Op::Heads => net::heads(t, &mut heads).map(|_| vec![]),
+            Op::WindowList => net::window_list(t, marks, self.window(), (self.a, self.b), rows).map(listed),
+            Op::Heads => net::heads(t, heads).map(|_| vec![]),
             Op::Claim => net::claim(t, marks, self.run, self.a, self.b).map(|k| vec![k as i128]),
             Op::Commit => net::commit(t, marks, self.run).map(|k| vec![k as i128]),
             Op::Abort => net::abort(t, marks, self.run).map(|k| vec![k as i128]),
-            Op::Bound => {
-                net::set_bound(t, self.x as u32);
-                Ok(vec![])
-            }
             Op::Vet => net::vet(t, marks, self.x as i64, &self.list).map(of_verdict),
+        }
+    }
+
+    /// What the documents say to it: of the table, or of the table with the rows of the change set written in. Claim,
+    /// commit and abort change the marks, a bound changes the table.
+    pub fn answer(&self, t: &mut [u8], set: &[u8], marks: &mut [u16]) -> Said {
+        let mut rows = vec![LENT; self.lent as usize];
+        let mut heads = vec![LENT as u16; self.lent as usize];
+        let wide = |bytes: &[u8]| Some(bytes.iter().map(|b| *b as u16).collect());
+        if self.op == Op::Bound {
+            net::set_bound(t, self.x as u32);
+        }
+        let fields = if self.with && self.op != Op::RowPart {
+            changes::changed(t, set).and_then(|changed| self.fields(&changed, marks, &mut rows, &mut heads))
+        } else {
+            self.fields(t, marks, &mut rows, &mut heads)
         };
         let memory = match self.op {
+            Op::RowPart if self.with => wide(changes::shown(t, set, self.x)),
             Op::RowPart => wide(net::part(t, self.x)),
             Op::FirstRow => wide(net::first(t)),
             Op::Listing | Op::ListingExact | Op::WindowList => wide(&rows),

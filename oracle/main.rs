@@ -1,6 +1,7 @@
 //! The second program: hand-worked and random cases, and their answers from the words of documents 01 and 02 alone.
 mod asks;
 mod cases;
+mod changes;
 mod form;
 mod grids;
 mod make;
@@ -26,7 +27,7 @@ usage: oracle make SEED COUNT LIMIT [worked] > CASES     COUNT random cases of a
        oracle answer [worked] < CASES                    a line for each ask; of the hand-worked ones the answer that
                                                          is written there
        oracle tables SEED COUNT LIMIT [first] > TABLES   COUNT random tables for the report; its own cases first
-       oracle report < TABLES                            the report of each table
+       oracle report < TABLES                            the report of each table, and with its change set
        oracle trades SEED COUNT LIMIT [worked] > TRADES  COUNT random trades with the road-graph tools, of nets of at
                                                          most LIMIT nodes; those of oracle/roads.txt first
        oracle traded [worked] < TRADES                   the lines of each; of the hand-worked ones the answer that is
@@ -84,7 +85,7 @@ fn make(seed: u64, count: usize, limit: usize, with_worked: bool) -> Vec<Case> {
     let known = if with_worked { worked() } else { vec![] };
     let mut random: Vec<Case> = make::random_cases(seed, count, limit).into_iter().map(|p| p.case()).collect();
     if let Some(first) = random.first_mut().filter(|_| with_worked) {
-        first.text = "\nRandom cases, twenty-eight lines each.\n".to_string();
+        first.text = "\nRandom cases, forty-seven lines each.\n".to_string();
     }
     known.into_iter().map(|(case, _)| case).chain(random).collect()
 }
@@ -152,8 +153,9 @@ fn main() -> Result<()> {
             reports::write(&mut out, &all)?;
         }
         Some("report") => {
-            for table in reports::read(&mut BufReader::new(stdin().lock()))? {
+            for (table, set) in reports::read(&mut BufReader::new(stdin().lock()))? {
                 reports::report(&mut out, &table)?;
+                reports::report_with(&mut out, &table, &set)?;
             }
         }
         Some("trades") => {

@@ -1,7 +1,9 @@
 //! Random cases, some damaged.
+use crate::changes::{changed, entry, HEAD};
 use crate::net::{self, Net, Window};
-use crate::plain::{all_pairs, our_rows, table, Branch, Carried, List, Listed, Plain};
+use crate::plain::{all_pairs, our_rows, table, Branch, Carried, Changes, List, Listed, Plain};
 use crate::random::Random;
+use std::collections::BTreeSet;
 
 /// The parent of each node but 0, by shape.
 fn shape(r: &mut Random, n: usize) -> Vec<usize> {
@@ -329,6 +331,150 @@ fn damage(r: &mut Random, t: &mut Vec<u8>, n: usize, version: u8) {
     }
 }
 
+/// Some of so many rows: none, one, a few, all, any.
+fn some_rows(r: &mut Random, rows: usize) -> BTreeSet<usize> {
+    let many = match r.below(8) {
+        0 => 0,
+        1 | 2 => 1,
+        3 | 4 => 1 + r.below(4),
+        5 => rows,
+        _ => r.below(rows + 1),
+    };
+    let mut all: Vec<usize> = (0..rows).collect();
+    r.shuffle(&mut all);
+    all.into_iter().take(many).collect()
+}
+
+/// A row of a tree joins other nodes, so that it stays a tree: one of either of the two parts that it leaves.
+fn rewire(r: &mut Random, rows: &mut [Branch], at: usize) {
+    let net = net::accept(&table(rows.len() as u16 + 1, 0, rows)).ok().expect("a tree");
+    let free = vec![0; rows.len()];
+    let [near, far] = net.rows[at].ends.map(|end| net.from(end, &free).count);
+    let (one, other): (Vec<usize>, Vec<usize>) = (0..net.n).partition(|x| near[*x] < far[*x]);
+    (rows[at].0, rows[at].1) = (r.pick(&one) as u16, r.pick(&other) as u16);
+}
+
+/// One fault of an entry's row, which stands from a place of the set on.
+fn spoil_row(r: &mut Random, set: &mut [u8], at: usize, n: usize, version: u8) {
+    let mut put = |at: usize, bytes: &[u8]| set[at..at + bytes.len()].copy_from_slice(bytes);
+    let some = |r: &mut Random| (r.below(n) as u16).to_le_bytes();
+    match r.below(9) {
+        0 => put(at + 2 * r.below(2), &r.pick(&[n as u16, n as u16 + 1, 65_535]).to_le_bytes()),
+        1 => { let end = some(r); put(at, &end); put(at + 2, &end) }
+        2 => put(at + 4, &r.pick(&[1_000_001u32, 1 << 31, u32::MAX]).to_le_bytes()),
+        3 | 4 if version == 1 => put(at + 8, &r.pick(&[1_000_001i32, -1_000_001, i32::MIN, i32::MAX]).to_le_bytes()),
+        3 => put(at + 8, &r.pick(&[64u16, 65, 65_535]).to_le_bytes()),
+        4 => put(at + 10, &r.pick(&[20_001u16, 65_535]).to_le_bytes()),
+        // A ring, most often.
+        5 | 6 => put(at + 2 * r.below(2), &some(r)),
+        _ => { put(at, &some(r)); put(at + 2, &some(r)) }
+    }
+}
+
+/// One fault of a set's form: of its first bytes, its size, its row numbers.
+fn misform(r: &mut Random, set: &mut Vec<u8>, n: usize) {
+    let many = (set.len() - 6) / 14;
+    let (one, two) = (6 + 14 * r.below(many.max(1)), 6 + 14 * r.below(many.max(1)));
+    match r.below(13) {
+        0 => set[r.below(3)] ^= 1 << r.below(8),
+        1 => set[3] = r.pick(&[0, 2, 3, 255]),
+        2 => set[4] = r.pick(&[1, 2, 255]),
+        3 => set[5] = r.pick(&[0, 2, 3, 255]),
+        4 => set.truncate(r.below(set.len() + 1)),
+        5 => set.truncate(r.pick(&[0, 1, 5, 6, 7, 19, 20, 21])),
+        6 => set.extend(vec![0; 1 + r.below(14)]),
+        // An entry for a row that is none.
+        7 | 8 if many == 0 => set.extend(entry(r.pick(&[0, n as u16 - 1, n as u16, 65_535]), &[0; 12])),
+        _ if many == 0 => set.truncate(r.below(6)),
+        7 => {
+            let last = set.len() - 14;
+            set[last..last + 2].copy_from_slice(&r.pick(&[n as u16 - 1, n as u16, 65_535]).to_le_bytes())
+        }
+        8 => { let any = r.below(n) as u16; set[one..one + 2].copy_from_slice(&r.pick(&[0, any, any]).to_le_bytes()) }
+        // A row number twice, beside each other or far apart; two entries that change places.
+        9 => { let again = set[one..one + 14].to_vec(); set.splice(one..one, again); }
+        10 => { let again = set[one..one + 14].to_vec(); set.extend(again) }
+        11 => { let row = [set[one], set[one + 1]]; set[two..two + 2].copy_from_slice(&row) }
+        _ => for i in 0..14 { set.swap(one + i, two + i) },
+    }
+}
+
+/// A change set for a table, which was made from the rows of a tree and may be damaged since. Mostly the rows are a
+/// tree again: another one altogether; or some rows have other figures, some join other nodes, or they stay as they
+/// are; a row that was damaged may have its own bytes back. Else a row is bad, or the set's form is.
+fn change_set(r: &mut Random, t: &[u8], rows: &[Branch], version: u8) -> Vec<u8> {
+    let n = rows.len() + 1;
+    let (mut new, mut entries) = (rows.to_vec(), some_rows(r, rows.len()));
+    let sort = r.below(9);
+    if sort == 0 {
+        (new, entries) = (branches(r, n, version), (0..rows.len()).collect());
+    }
+    if (1..=4).contains(&sort) {
+        let (long, heavy) = (lengths(r, n), carried(r, n, version));
+        for at in &entries {
+            (new[*at].2, new[*at].3) = (long[*at], heavy[*at]);
+        }
+    }
+    if (3..=5).contains(&sort) && n > 1 {
+        for _ in 0..1 + r.below(3) {
+            let at = r.below(rows.len());
+            rewire(r, &mut new, at);
+            entries.insert(at);
+        }
+    }
+    let bytes = table(n as u16, 0, rows);
+    if !r.one_in(4) {
+        entries.extend((0..rows.len()).filter(|at| net::part(t, *at as u64) != net::part(&bytes, *at as u64)));
+    }
+    let bytes = table(n as u16, 0, &new);
+    let mut set = HEAD.to_vec();
+    for at in &entries {
+        set.extend(entry(*at as u16, net::part(&bytes, *at as u64)));
+    }
+    if sort >= 7 && !entries.is_empty() {
+        let at = 8 + 14 * r.below(entries.len());
+        spoil_row(r, &mut set, at, n, version);
+    }
+    if r.one_in(5) {
+        misform(r, &mut set, n);
+    }
+    set
+}
+
+/// The set, and numbers about the changed table, where it is one; else about the table as it was made.
+fn changes(r: &mut Random, p: &Plain, made: &[u8], rows: &[Branch], version: u8) -> Changes {
+    let set = change_set(r, &p.table, rows, version);
+    let mut marks = p.settled();
+    let fits = |t: &Vec<u8>| net::accept(t).is_ok_and(|net| net.n == marks.len() + 1);
+    let mut t = changed(&p.table, &set).ok().filter(fits).unwrap_or(made.to_vec());
+    let net = net::accept(&t).ok().expect("a tree");
+    marks.resize(net.n - 1, 0);
+    let (length, weight) = some_pair(r, &net, &marks);
+    let bound = match r.below(8) {
+        0 | 1 => net.bound as u32,
+        2 => (length as u32).saturating_sub(1),
+        3 => length as u32 + 1,
+        4 => u32::MAX,
+        _ => length as u32,
+    };
+    net::set_bound(&mut t, bound);
+    let net = net::accept(&t).ok().expect("a tree");
+    let floor = match r.below(6) {
+        0 => i64::MIN,
+        1 => weight + 1,
+        2 => net::heaviest(&t, &marks).map_or(0, |best| best.3),
+        _ => weight,
+    };
+    let window = window(r, &net, &marks);
+    let (out, faults) = if r.one_in(3) { (r.below(3), r.below(2)) } else { (0, 0) };
+    let list = list(r, &net, &t, &marks, floor, out, faults);
+    // Of an entry, where there is one; of any row; where there is none.
+    let of_entry = set.get(6..8).map_or(0, |row| u16::from_le_bytes([row[0], row[1]]) as u64);
+    let far = r.pick(&[net.n as u64 - 1, 65_535, 65_536 + of_entry, 1 << 62, u64::MAX]);
+    let rows = [of_entry, if r.one_in(3) { far } else { r.below(net.n) as u64 }];
+    Changes { set, bound, floor, window, list, rows }
+}
+
 fn random(r: &mut Random, limit: usize) -> Plain {
     let n = match r.below(8) {
         0 => 1 + r.below(limit.min(4)),
@@ -338,8 +484,8 @@ fn random(r: &mut Random, limit: usize) -> Plain {
     };
     let version = if r.one_in(3) { 2 } else { 1 };
     let rows = branches(r, n, version);
-    // From numbers of their own, so that the tables stay the same whatever marks, windows and lists are made and
-    // whatever is relaxed.
+    // From numbers of their own, so that the tables stay the same whatever marks, windows, lists and change sets are
+    // made and whatever is relaxed.
     let own = &mut Random(r.next());
     let run = run_number(own);
     let other = if own.one_in(3) { run } else { run_number(own) };
@@ -399,14 +545,33 @@ fn random(r: &mut Random, limit: usize) -> Plain {
         marks.resize(wrong, 0);
     }
     let heads = if r.one_in(12) { r.pick(&[0, n - 1, n + 1]) } else { n } as u16;
+    let made = t.clone();
     if r.one_in(4) {
         damage(r, &mut t, n, version);
         if r.one_in(4) {
             damage_again(r, &mut t);
         }
     }
-    let whole = all_pairs(n);
-    Plain { table: t, marks, run, other, a, b, start, room, heads, floor, windows, lists, raised, lower, whole }
+    let (whole, nothing) = (all_pairs(n), Changes::nothing(n, bound));
+    let p = Plain {
+        table: t,
+        marks,
+        run,
+        other,
+        a,
+        b,
+        start,
+        room,
+        heads,
+        floor,
+        windows,
+        lists,
+        raised,
+        lower,
+        whole,
+        changes: nothing,
+    };
+    Plain { changes: changes(own, &p, &made, &rows, version), ..p }
 }
 
 /// A second fault, so that the order of refusals shows.

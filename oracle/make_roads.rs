@@ -1,5 +1,5 @@
 //! Random trades: texts of random trees, with comments strewn in and arcs in any order, half of them damaged once or
-//! twice; and random tables to be written.
+//! twice; and random tables to be written, also with their change sets.
 use crate::make::{branches, random_cases};
 use crate::plain::{Branch, Carried};
 use crate::random::Random;
@@ -312,9 +312,10 @@ fn reading(r: &mut Random, mut d: Drawn) -> Trade {
     Trade { text: String::new(), first, second, asks }
 }
 
-/// A table to be written, with room as much as its texts need, or one less for either, more, any.
-fn writing(r: &mut Random, table: Vec<u8>) -> Trade {
-    let (l, w) = roads::texts(&table).map_or((90, 90), |(l, w)| (l.len(), w.len()));
+/// A table to be written, or with its change set where there is one, with room as much as its texts need, or one less
+/// for either, more, any.
+fn written(r: &mut Random, table: &[u8], set: Option<&[u8]>) -> Op {
+    let (l, w) = roads::texts(table, set).map_or((90, 90), |(l, w)| (l.len(), w.len()));
     let (lengths, weights) = match r.below(12) {
         0 => (l - 1, w),
         1 => (l, w - 1),
@@ -325,20 +326,26 @@ fn writing(r: &mut Random, table: Vec<u8>) -> Trade {
     };
     let own = table.get(8..12).map_or(0, |b| u32::from_le_bytes(b.try_into().unwrap()));
     let bound = if r.one_in(4) { bound(r) } else { own };
-    let op = Op::Write { bound, lengths: lengths as u32, weights: weights as u32 };
-    Trade { text: String::new(), first: table, second: vec![], asks: vec![ask(op, "write:")] }
+    Op::Write { with: set.is_some(), bound, lengths: lengths as u32, weights: weights as u32 }
+}
+
+/// Of a table both. What is written with the set draws from numbers of its own, so that the rest stays as it is.
+fn writing(r: &mut Random, own: &mut Random, table: Vec<u8>, set: Vec<u8>) -> Trade {
+    let alone = ask(written(r, &table, None), "write:");
+    let with = ask(written(own, &table, Some(&set)), "with changes write:");
+    Trade { text: String::new(), first: table, second: set, asks: vec![alone, with] }
 }
 
 /// `count` random trades of nets of at most `limit` nodes: two of three are read, the third is written. Where nets may
 /// be large, one in ten of those that are read has more branches than any net.
 pub fn random_trades(seed: u64, count: usize, limit: usize) -> Vec<Trade> {
-    let mut r = Random(seed);
-    let mut tables = random_cases(r.next(), count, limit).into_iter().map(|plain| plain.table);
+    let (mut r, mut own) = (Random(seed), Random(!seed));
+    let mut tables = random_cases(r.next(), count, limit).into_iter().map(|plain| (plain.table, plain.changes.set));
     (0..count)
         .map(|i| {
-            let table = tables.next().expect("as many tables");
+            let (table, set) = tables.next().expect("as many tables");
             if i % 3 == 2 {
-                return writing(&mut r, table);
+                return writing(&mut r, &mut own, table, set);
             }
             let n = match r.below(8) {
                 0 => 1 + r.below(limit.min(3)),

@@ -106,20 +106,52 @@ fn told(why: &str, lines: &[Told]) -> Option<String> {
     Some(format!("{why}:{lines}"))
 }
 
-/// Where the answers of a case break it: how, and the lines that do.
+/// What was asked before of one table: the last answer to heaviest and what came since, and the listings of the table
+/// and the marks as they are now.
+#[derive(Default)]
+struct Before<'a> {
+    since: Since,
+    heaviest: Option<Told<'a>>,
+    listings: Vec<Told<'a>>,
+}
+
+impl<'a> Before<'a> {
+    /// Where an answer breaks it.
+    fn broken(&mut self, now: Told<'a>) -> Option<String> {
+        match now.0.op {
+            Op::Heaviest => {
+                if let Some(before) = self.heaviest.filter(|before| !weighs(&self.since, before.1, now.1)) {
+                    return told(between(&self.since), &[before, now]);
+                }
+                (self.heaviest, self.since) = (Some(now), Since::default());
+            }
+            Op::Listing => {
+                if let Some(before) = self.listings.iter().find(|before| !lists(**before, now)) {
+                    return told("the lower floor's list does not contain the higher floor's", &[*before, now]);
+                }
+                self.listings.push(now);
+            }
+            _ => {}
+        }
+        None
+    }
+}
+
+/// Where the answers of a case break it: how, and the lines that do. The changed table is another one than the table:
+/// its answers are compared among themselves. Both have one B and one set of marks; a claim along the one's path marks
+/// what is free for the other too.
 pub fn broken(case: &Case, answers: &[Said]) -> Option<String> {
     let (mut table, mut marks) = (case.table.clone(), &case.marks);
-    let mut since = Since::default();
-    let mut heaviest: Option<Told> = None;
-    // Of the table and the marks as they are now.
-    let mut listings: Vec<Told> = vec![];
+    let (mut own, mut changed) = (Before::default(), Before::default());
     for now @ (ask, said) in case.asks.iter().zip(answers) {
         match ask.op {
             Op::Bound => {
                 let before = net::bound_in(&table);
                 net::set_bound(&mut table, ask.x as u32);
-                since.bound(before, net::bound_in(&table));
-                listings.clear();
+                for of in [&mut own, &mut changed] {
+                    of.since.bound(before, net::bound_in(&table));
+                    of.listings.clear();
+                }
             }
             Op::Claim | Op::Commit | Op::Abort => {
                 let after = said.memory.as_ref().expect("the marks");
@@ -127,24 +159,19 @@ pub fn broken(case: &Case, answers: &[Said]) -> Option<String> {
                     if refused(said) {
                         return told("it is refused, and yet the marks change", &[now]);
                     }
-                    since.marks(ask.op);
+                    for of in [&mut own, &mut changed] {
+                        of.since.marks(ask.op);
+                        of.listings.clear();
+                    }
                     marks = after;
-                    listings.clear();
                 }
             }
-            Op::Heaviest => {
-                if let Some(before) = heaviest.filter(|before| !weighs(&since, before.1, said)) {
-                    return told(between(&since), &[before, now]);
+            _ => {
+                let of = if ask.with { &mut changed } else { &mut own };
+                if let Some(why) = of.broken(now) {
+                    return Some(why);
                 }
-                (heaviest, since) = (Some(now), Since::default());
             }
-            Op::Listing => {
-                if let Some(before) = listings.iter().find(|before| !lists(**before, now)) {
-                    return told("the lower floor's list does not contain the higher floor's", &[*before, now]);
-                }
-                listings.push(now);
-            }
-            _ => {}
         }
     }
     None

@@ -2,10 +2,11 @@
 //! worked.txt, what is written there is what the library must say; that this program computes the same is tested, and a
 //! difference is told with its line. README.md has the form.
 use crate::asks::LENT;
+use crate::changes::HEAD;
 use crate::grids;
-use crate::plain::{Branch, Carried};
+use crate::plain::{self, Branch, Carried};
 use crate::trades::{Ask, Op, Said, Trade};
-use crate::worked::{alike, lines, number, refusal, rows, strange, table_of, words, Nets, Read};
+use crate::worked::{alike, lines, number, refusal, rows, set_of, strange, table_of, words, Nets, Read};
 use std::collections::HashMap;
 
 const WORDS: &str = include_str!("roads.txt");
@@ -35,6 +36,10 @@ struct Named {
 }
 
 impl Named {
+    fn rows(&self, name: &str) -> Read<&Vec<Branch>> {
+        self.nets.get(name).ok_or(format!("no net is called {name}"))
+    }
+
     fn texts(&self, name: &str) -> Read<&Texts> {
         self.texts.get(name).ok_or(format!("no graph is called {name}"))
     }
@@ -151,7 +156,7 @@ fn written(rows: &[Branch], nodes: usize, last: bool) -> Texts {
 /// `the texts of NET`; then `nodes N` where it has not one node more than rows, `opposites last`.
 fn texts_of_net(rest: &str, named: &Named) -> Read<Texts> {
     let all = parts(rest);
-    let rows = named.nets.get(all[0]).ok_or(format!("no net is called {}", all[0]))?;
+    let rows = named.rows(all[0])?;
     let (mut nodes, mut last) = (rows.len() + 1, false);
     for part in &all[1..] {
         match words(part)[..] {
@@ -198,8 +203,9 @@ fn net_rows(line: &str) -> Read<Vec<Branch>> {
 
 /// What is asked. Where no bound is told to read back with, it is the table's own.
 fn ask(text: &str, table: &[u8]) -> Read<Ask> {
-    let (op, shown) = match words(text)[..] {
-        ["read", "bound", b, "room", k] => (Op::Read { bound: number(b)?, room: number(k)? }, SHOWN_TABLE),
+    let (with, asked) = text.strip_prefix("with changes ").map_or((false, text), |asked| (true, asked));
+    let (op, shown) = match words(asked)[..] {
+        ["read", "bound", b, "room", k] if !with => (Op::Read { bound: number(b)?, room: number(k)? }, SHOWN_TABLE),
         ["write", "room", l, w, ref rest @ ..] => {
             let bound = match rest {
                 [] if table.len() < 12 => 0,
@@ -207,7 +213,7 @@ fn ask(text: &str, table: &[u8]) -> Read<Ask> {
                 ["back", "bound", b] => number(b)?,
                 other => return strange("what reading back takes", other),
             };
-            (Op::Write { bound, lengths: number(l)?, weights: number(w)? }, SHOWN_TEXT)
+            (Op::Write { with, bound, lengths: number(l)?, weights: number(w)? }, SHOWN_TEXT)
         }
         ref other => return strange("an ask", other),
     };
@@ -227,7 +233,8 @@ fn lent(bytes: &[u8], room: u32) -> Vec<u8> {
 }
 
 /// The answer as it is written: a refusal, which leaves the lent bytes as they were; a table; or texts, and what is
-/// read back from them is the table again, with the bound that was passed beside.
+/// read back from them is the table again, with the bound that was passed beside; with a change set the table of the
+/// net by whose name the texts are told.
 fn said(op: Op, text: &str, table: &[u8], named: &Named) -> Read<Said> {
     let refusal = refusal(&words(text))?;
     match (op, refusal) {
@@ -239,12 +246,18 @@ fn said(op: Op, text: &str, table: &[u8], named: &Named) -> Read<Said> {
         (Op::Write { lengths, weights, .. }, Some(refusal)) => {
             Ok(Said::Wrote(refusal, [0, 0], [lent(&[], lengths), lent(&[], weights)], None))
         }
-        (Op::Write { bound, lengths, weights }, None) => {
-            let [l, w] = match text.strip_prefix("the texts of ") {
+        (Op::Write { with, bound, lengths, weights }, None) => {
+            let net = text.strip_prefix("the texts of ");
+            let [l, w] = match net {
                 Some(rest) => texts_of_net(rest, named)?,
                 None => texts_of(text.strip_prefix("texts ").ok_or("texts are 'texts ..'")?, named)?,
             };
-            let back = [&table[..8], &bound.to_le_bytes()[..], &table[12..]].concat();
+            let back = if with {
+                let rows = named.rows(net.or(text.strip_prefix("texts ")).unwrap_or_default())?;
+                plain::table(rows.len() as u16 + 1, bound, rows)
+            } else {
+                [&table[..8], &bound.to_le_bytes()[..], &table[12..]].concat()
+            };
             let back = Box::new(Said::Read([0; 3], back.len(), back));
             Ok(Said::Wrote([0; 3], [l.len(), w.len()], [lent(&l, lengths), lent(&w, weights)], Some(back)))
         }
@@ -256,6 +269,16 @@ impl Worked {
     fn new(text: String, inputs: Texts) -> Worked {
         let [first, second] = inputs.clone();
         Worked { trade: Trade { text, first, second, asks: vec![] }, answers: vec![], now: inputs }
+    }
+
+    /// The change set of a table, before anything is asked.
+    fn changes(&mut self, set: Vec<u8>) -> Read<()> {
+        if !self.trade.asks.is_empty() {
+            return Err("a change set stands before what is asked".to_string());
+        }
+        self.trade.second = set.clone();
+        self.now[1] = set;
+        Ok(())
     }
 
     fn push(&mut self, ask: Ask, answer: Option<(usize, Said)>) {
@@ -372,17 +395,20 @@ impl Reader {
         }
     }
 
-    /// A line of a case: its texts or its table, which begin a trade; what is said of these texts, so that they are
-    /// damaged, which is a trade too; or what follows of the last one.
+    /// A line of a case: its texts or its table, which begin a trade; the change set of a table; what is said of these
+    /// texts, so that they are damaged, which is a trade too; or what follows of the last one.
     fn in_case(&mut self, text: String, at: usize, line: &str) -> Read<()> {
         let inputs = match (line.strip_prefix("texts "), line.strip_prefix("table ")) {
             (Some(rest), _) => Some(texts_of(rest, &self.named)?),
-            (_, Some(rest)) => Some([table_of(rest, &self.named.nets)?.0, vec![]]),
+            (_, Some(rest)) => Some([table_of(rest, &self.named.nets)?.0, HEAD.to_vec()]),
             _ => None,
         };
         if let Some(inputs) = inputs {
             self.begun = self.all.len();
             self.all.push(Worked::new(text, inputs));
+        } else if let Some(rest) = line.strip_prefix("changes ") {
+            let set = set_of(rest, &self.named.nets)?;
+            self.all.last_mut().ok_or("no table yet")?.changes(set)?;
         } else if ["in ", "lengths ", "weights ", "both "].iter().any(|word| line.starts_with(word)) {
             let damaged = self.all.get(self.begun).ok_or("no texts yet")?.damaged(at, line, &self.named)?;
             self.all.push(damaged);

@@ -1,5 +1,6 @@
 //! Trade with the road-graph tools (document 02, Req 07): what a pair of road-graph texts says, the table made of it,
-//! and the texts written from a table. Straight from the request's words.
+//! and the texts written from a table, also with its change set (Req 12). Straight from the requests' words.
+use crate::changes;
 use crate::net::{self, Refused};
 use crate::plain::{table, Branch, Carried};
 use std::collections::{BTreeMap, BTreeSet};
@@ -148,18 +149,27 @@ fn text(net: &net::Net, number: fn(&net::Row) -> i64) -> Vec<u8> {
     text.into_bytes()
 }
 
-/// The two texts of a table: 1 to 11, where 3 is any other version than 1.
-pub fn texts(t: &[u8]) -> Result<(Vec<u8>, Vec<u8>), Refused> {
+/// The two texts of a table, or of the table with a set's rows written in: 1 to 6, where 3 is any other version than 1;
+/// with a set 33 and 34; 7 to 11.
+pub fn texts(t: &[u8], set: Option<&[u8]>) -> Result<(Vec<u8>, Vec<u8>), Refused> {
     if t.len() >= 12 && t.starts_with(b"RTN") && t[3..5] != [1, 0] {
         return Err(refused(3));
     }
-    let net = net::accept(t)?;
+    let net = match set {
+        None => net::accept(t)?,
+        Some(set) => net::accept(&changes::changed(t, set)?)?,
+    };
     Ok((text(&net, |row| row.length as i64), text(&net, |row| row.weight)))
 }
 
-/// Writes both texts from a table into the lent bytes, after 29: their sizes.
-pub fn write(t: &[u8], lengths: &mut [u8], weights: &mut [u8]) -> Result<(usize, usize), Refused> {
-    let (long, heavy) = texts(t)?;
+/// Writes both texts into the lent bytes, after 29: their sizes.
+pub fn write(
+    t: &[u8],
+    set: Option<&[u8]>,
+    lengths: &mut [u8],
+    weights: &mut [u8],
+) -> Result<(usize, usize), Refused> {
+    let (long, heavy) = texts(t, set)?;
     if lengths.len() < long.len() || weights.len() < heavy.len() {
         return Err(refused(29));
     }

@@ -1,5 +1,5 @@
-//! A trade: a pair of road-graph texts or a table, and asks to read or to write; its bytes and its lines (README.md has
-//! both).
+//! A trade: a pair of road-graph texts, or a table and its change set, and asks to read or to write; its bytes and its
+//! lines (README.md has both).
 use crate::asks::LENT;
 use crate::form::{bytes, get_16, get_32, put_16, put_32, text};
 use crate::net::Refused;
@@ -11,11 +11,12 @@ const MOST_INPUT: usize = 400_000;
 const MOST_TABLE: usize = 200_000;
 const MOST_TEXT: usize = 400_000;
 
-/// What is asked. A change is of one byte of an input, and stays for the asks that follow.
+/// What is asked: to read, to write, also with the table's change set. A change is of one byte of an input, and stays
+/// for the asks that follow.
 #[derive(Clone, Copy, PartialEq, Debug)]
 pub enum Op {
     Read { bound: u32, room: u32 },
-    Write { bound: u32, lengths: u32, weights: u32 },
+    Write { with: bool, bound: u32, lengths: u32, weights: u32 },
     First { place: u32, byte: u8 },
     Second { place: u32, byte: u8 },
 }
@@ -29,7 +30,7 @@ pub struct Ask {
     pub shown: u16,
 }
 
-/// The inputs are the texts of lengths and of weights, or a table and nothing.
+/// The inputs are the texts of lengths and of weights, or a table and its change set.
 #[derive(Clone, PartialEq)]
 pub struct Trade {
     /// Written before the lines as it stands.
@@ -62,9 +63,9 @@ fn read_said(lengths: &[u8], weights: &[u8], bound: u32, room: usize) -> Said {
 }
 
 /// What was written is read back into as many lent bytes as the table has.
-fn write_said(table: &[u8], bound: u32, lengths: usize, weights: usize) -> Said {
+fn write_said(table: &[u8], set: Option<&[u8]>, bound: u32, lengths: usize, weights: usize) -> Said {
     let (mut long, mut heavy) = (vec![LENT; lengths], vec![LENT; weights]);
-    match roads::write(table, &mut long, &mut heavy) {
+    match roads::write(table, set, &mut long, &mut heavy) {
         Ok((l, w)) => {
             let back = read_said(&long[..l], &heavy[..w], bound, table.len());
             Said::Wrote([0; 3], [l, w], [long, heavy], Some(Box::new(back)))
@@ -112,7 +113,10 @@ impl Trade {
         let (mut first, mut second) = (self.first.clone(), self.second.clone());
         let mut answer = |op| match op {
             Op::Read { bound, room } => read_said(&first, &second, bound, room as usize),
-            Op::Write { bound, lengths, weights } => write_said(&first, bound, lengths as usize, weights as usize),
+            Op::Write { with, bound, lengths, weights } => {
+                let set = if with { Some(&second[..]) } else { None };
+                write_said(&first, set, bound, lengths as usize, weights as usize)
+            }
             Op::First { place, byte } => {
                 first[place as usize] = byte;
                 Said::Nothing
@@ -137,9 +141,9 @@ fn coded(op: Op) -> (usize, [u32; 3]) {
             assert!(room as usize <= MOST_TABLE);
             (1, [bound, room, 0])
         }
-        Op::Write { bound, lengths, weights } => {
+        Op::Write { with, bound, lengths, weights } => {
             assert!(lengths as usize <= MOST_TEXT && weights as usize <= MOST_TEXT);
-            (2, [bound, lengths, weights])
+            (if with { 5 } else { 2 }, [bound, lengths, weights])
         }
         Op::First { place, byte } => (3, [place, byte as u32, 0]),
         Op::Second { place, byte } => (4, [place, byte as u32, 0]),
@@ -171,7 +175,7 @@ fn ask(input: &mut impl Read) -> Result<Ask> {
     let [x, y, z] = get_32(input)?;
     let op = match code {
         1 => Op::Read { bound: x, room: y },
-        2 => Op::Write { bound: x, lengths: y, weights: z },
+        2 | 5 => Op::Write { with: code == 5, bound: x, lengths: y, weights: z },
         3 => Op::First { place: x, byte: y as u8 },
         4 => Op::Second { place: x, byte: y as u8 },
         _ => panic!("an operation"),

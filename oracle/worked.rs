@@ -3,6 +3,7 @@
 //! with its line. README.md has the form.
 use crate::asks::{of_mark, of_verdict, Ask, Op, Said, LENT};
 use crate::cases::Case;
+use crate::changes::{entry, HEAD};
 use crate::net::{Mark, Vetted, Window};
 use crate::plain::{plain, table, version, Branch, Carried};
 use std::collections::HashMap;
@@ -92,8 +93,8 @@ pub fn alike(net: &[Branch]) -> Read<()> {
     Ok(())
 }
 
-/// What may be said of bytes, a table's or a list's: `byte P is V`, `cut to K bytes`, `then K more` (zeros). Is it one
-/// of these?
+/// What may be said of bytes, a table's, a change set's or a list's: `byte P is V`, `cut to K bytes`, `then K more`
+/// (zeros). Is it one of these?
 fn change(bytes: &mut Vec<u8>, said: &[&str]) -> Read<bool> {
     match said {
         ["byte", p, "is", v] => *bytes.get_mut(number::<usize>(p)?).ok_or("no such byte")? = number(v)?,
@@ -138,6 +139,32 @@ pub fn table_of(line: &str, nets: &Nets) -> Read<(Vec<u8>, usize)> {
         change(&mut t, part)?;
     }
     Ok((t, net.len()))
+}
+
+/// A row as its 12 bytes.
+fn row_bytes(row: Branch) -> Vec<u8> {
+    table(0, 0, &[row])[12..].to_vec()
+}
+
+/// A change set's bytes: `nothing`, or entries, `row 1 is 0 2 4 5`, in any order, or one for each row of a net, `all
+/// rows of NET`; then what is said of its bytes.
+pub fn set_of(line: &str, nets: &Nets) -> Read<Vec<u8>> {
+    let mut set = HEAD.to_vec();
+    for part in parts(line) {
+        match part[..] {
+            ["nothing"] => {}
+            ["row", r, "is", ref rest @ ..] => set.extend(entry(number(r)?, &row_bytes(row(rest)?))),
+            ["all", "rows", "of", name] => {
+                let net = nets.get(name).ok_or(format!("no net is called {name}"))?;
+                for (at, row) in net.iter().enumerate() {
+                    set.extend(entry(at as u16, &row_bytes(*row)));
+                }
+            }
+            ref said if change(&mut set, said)? => {}
+            ref other => return strange("an entry of a change set", other),
+        }
+    }
+    Ok(set)
 }
 
 /// Marks: `0 7 7 0`, or where many are alike `4094 times 0 7`.
@@ -208,8 +235,17 @@ fn pairs_of(shape: &str, nodes: u16, length: u32, weight: i64) -> Read<Vec<u8>> 
     Ok(bytes)
 }
 
-/// What is asked.
+/// What is asked: of the table, or with its change set.
 fn ask(text: &str) -> Read<Ask> {
+    let Some(rest) = text.strip_prefix("with changes ") else { return ask_of(text) };
+    let ask = ask_of(rest)?;
+    if ask.with || !ask.takes_set() {
+        return strange("what is asked with changes", &[rest]);
+    }
+    Ok(ask.with_changes())
+}
+
+fn ask_of(text: &str) -> Read<Ask> {
     let of = |op| Ask { shown: SHOWN, ..Ask::new(op, &format!("{text}:")) };
     let page = |op, rest: &[&str]| {
         let ["floor", x, rest @ ..] = rest else { return strange("what a listing takes", rest) };
@@ -224,6 +260,7 @@ fn ask(text: &str) -> Read<Ask> {
         ["open"] => of(Op::Open),
         ["examine"] => of(Op::Examine),
         ["row", "part", r] => Ask { x: number(r)?, ..of(Op::RowPart) },
+        ["row", "shown", r] => Ask { x: number(r)?, with: true, ..of(Op::RowPart) },
         ["next", "row", r] => Ask { x: number(r)?, ..of(Op::NextRow) },
         ["first", "row"] => of(Op::FirstRow),
         ["row", r] => Ask { x: number(r)?, ..of(Op::Row) },
@@ -272,7 +309,7 @@ fn part(row: &[&str]) -> Read<Vec<u8>> {
         other => return strange("a part", other),
     };
     let (a, b) = ends(pair)?;
-    Ok(table(0, 0, &[(a, b, number(length)?, last)])[12..].to_vec())
+    Ok(row_bytes((a, b, number(length)?, last)))
 }
 
 /// What a mark says: `free`, `held by 7`, `spent by 7`.
@@ -372,6 +409,7 @@ fn said(ask: &Ask, text: &str, before: &[u16]) -> Read<Said> {
 /// `the usual asks, floor 10, room 16`: what a random case asks, answered by this program alone, on indented lines.
 fn usual(text: &str, case: &Case) -> Read<Vec<Ask>> {
     let mut p = plain(case.table.clone(), &case.marks);
+    p.changes.set = case.set.clone();
     for part in &parts(text)[1..] {
         match part[..] {
             ["run", r] => p.run = number(r)?,
@@ -390,7 +428,8 @@ fn usual(text: &str, case: &Case) -> Read<Vec<Ask>> {
 impl Worked {
     fn new(text: &str) -> Worked {
         let text = format!("\n{text}\n");
-        Worked { case: Case { text, table: vec![], marks: vec![], asks: vec![] }, answers: vec![] }
+        let case = Case { text, table: vec![], set: HEAD.to_vec(), marks: vec![], asks: vec![] };
+        Worked { case, answers: vec![] }
     }
 
     /// The marks after the asks so far, as they are written.
@@ -406,6 +445,8 @@ impl Worked {
         if let Some(rest) = line.strip_prefix("table ") {
             let (table, free) = table_of(rest, nets)?;
             (self.case.table, self.case.marks) = (table, vec![0; free]);
+        } else if let Some(rest) = line.strip_prefix("changes ") {
+            self.case.set = set_of(rest, nets)?;
         } else if let Some(rest) = line.strip_prefix("marks ") {
             self.case.marks = marks(&words(rest))?;
         } else if let Some(rest) = line.strip_prefix("now bound ") {

@@ -1,6 +1,6 @@
-# What the programs for people share: messages, --version, a folder for what they read, an input read whole, and proving
-# first. To be read by their scripts, with $root (this clone), $name (theirs), $program (the crate that is run) and
-# $usage set.
+# What the programs for people share: messages, --version, a folder for what they read, an input read whole, numbers as
+# a program reads them, and proving first. To be read by their scripts, with $root (this clone), $name (theirs),
+# $program (the crate that is run) and $usage set.
 fail() { # STATUS MESSAGE
     echo "$name: $2" >&2
     exit "$1"
@@ -37,6 +37,17 @@ take() { # INPUT WHAT MOST FILE
         why=$(head -c "$3" -- "$1" 2>&1 >"$4") || fail 2 "cannot read $1: ${why##*: }"
     fi
 }
+
+# A number as so many bytes, the lowest first.
+bytes() { # NUMBER COUNT
+    x=$1 i=0
+    while [ $i -lt "$2" ]; do
+        printf "\\$(printf %03o $((x % 256)))"
+        x=$((x / 256)) i=$((i + 1))
+    done
+}
+
+size() { wc -c <"$1" | tr -d ' '; } # FILE
 
 # Proves the program where that is not done yet; in a clone that cannot be written it must be.
 prove_first() {

@@ -104,7 +104,7 @@ prove_aside() { # NAME ROOM
     mkdir -p "$2/target/stamp" && ln -s "$root/crates" "$root/crates.txt" "$2/" &&
         cp "$root"/target/stamp/* "$2/target/stamp/" 2>/dev/null &&
         (cd "$2" && timeout 60 rt check "$1") </dev/null >"$2/log" 2>&1 && [ -r "$root/target/bin/$1" ] && return
-    echo "$me: $root is not built as it stands, and you cannot write there: let its owner run ./$name" >&2
+    echo "$me: $root is not built as it stands, and you cannot write there: let its owner run ./$name likewise" >&2
     return 1
 }
 

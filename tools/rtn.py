@@ -1,10 +1,13 @@
-"""Branch tables as numbers, with nothing tested but what reading them needs. For tools/table and tools/draw."""
+"""Branch tables and change sets as numbers, with nothing tested but what reading them needs. For tools/table and
+tools/draw."""
 import os
 import struct
 import sys
 
 MOST_NODES, MOST, MOST_COUNT = 4096, 1_000_000, 20_000
 HEADER = struct.Struct("<3sHHBI")
+# A change set's own header: letters, version and sort; and the row number of an entry, before the row.
+SET, NUMBER = struct.Struct("<3sHB"), struct.Struct("<H")
 # A row by the table's version: node, node, length, and then weight, or kind and count.
 ROWS = {1: struct.Struct("<HHIi"), 2: struct.Struct("<HHIHH")}
 # What each kind scores: from 24 on filler, from 32 on blocked ground.
@@ -29,6 +32,12 @@ def pack(rows, bound):
     """The table of these rows, of version 2 where they have a kind and a count; it has one node more than rows."""
     version = 2 if rows and len(rows[0]) == 5 else 1
     return HEADER.pack(b"RTN", version, len(rows) + 1, 0, bound) + b"".join(ROWS[version].pack(*row) for row in rows)
+
+
+def pack_changes(entries):
+    """The change set of these entries, a row number and a row each, of version 2 where it has a kind and a count."""
+    row = ROWS[2 if entries and len(entries[0]) == 6 else 1]
+    return SET.pack(b"RTN", 1, 1) + b"".join(NUMBER.pack(entry[0]) + row.pack(*entry[1:]) for entry in entries)
 
 
 def unpack(table):

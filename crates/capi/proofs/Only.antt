@@ -48,7 +48,7 @@ use Rattle.capi.specs.Promises.{
   WriteCall,
 }
 
-shows-only : {O C : Type 0} {Promise : O → Type 0} (inC : O → C) → Only Promise → Only (ShowsInC Promise inC)
+pub shows-only : {O C : Type 0} {Promise : O → Type 0} (inC : O → C) → Only Promise → Only (ShowsInC Promise inC)
 shows-only inC o x y p q = p .shown ∙ ap inC (o (p .outcome) (q .outcome) (p .promise) (q .promise)) ∙ sym (q .shown)
 
 pub hb-accept-only : (s : List ℕ) → Only (AcceptCall s)

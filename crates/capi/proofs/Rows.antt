@@ -61,7 +61,7 @@ use Rattle.eight.specs.work.Room.{
   WriteRoom,
 }
 
-nowhere : Room 0 0
+pub nowhere : Room 0 0
 nowhere = record { low = omega arith; few = omega arith }
 
 -- a refusal of 1 to 11

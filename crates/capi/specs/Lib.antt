@@ -1,2 +1,3 @@
 -- What a reader must believe of this crate.
 pub mod Promises
+pub mod PromisesWith

@@ -1,6 +1,9 @@
 // The operations for C and Rust; include/hourbench.h declares them. A `&[u8]` is a pointer and a length to C, an `&mut
 // [i64; 8]` a pointer. Each function calls the operation and shows its answer, by the crate eight: it returns the
 // refusal number (0: none) and writes all 8 of `answer`: number, row, ring, the operation's fields in order, zeros.
+// Those with a change set are in sets.rt.
+mod sets;
+
 ghost use mathlib.Core.List.{[]};
 ghost use Rattle.window.specs.Window.{window};
 ghost use Rattle.eight.specs.Call.{call};
@@ -33,6 +36,21 @@ use eight::show_read;
 use eight::show_vet;
 use eight::show_window;
 use eight::show_write;
+pub use sets::hb_abort_with;
+pub use sets::hb_accept_with;
+pub use sets::hb_claim_with;
+pub use sets::hb_commit_with;
+pub use sets::hb_convert_with;
+pub use sets::hb_dimacs_write_with;
+pub use sets::hb_heads_with;
+pub use sets::hb_heaviest_exact_with;
+pub use sets::hb_heaviest_with;
+pub use sets::hb_listing_exact_with;
+pub use sets::hb_listing_with;
+pub use sets::hb_pair_with;
+pub use sets::hb_vet_with;
+pub use sets::hb_window_list_with;
+pub use sets::hb_window_with;
 
 // Fields: nodes, bound.
 #[no_mangle]

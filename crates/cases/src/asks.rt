@@ -1,5 +1,6 @@
 // The operations: what an ask calls, and its answer as fields. A new operation is a code and an arm here, and where its
-// answer is of a new sort a function that makes it fields.
+// answer is of a new sort a function that makes it fields. By a code that is greater by 128 it is asked with the case's
+// change set.
 use crate::read;
 use crate::read::Ask;
 use crate::say;
@@ -191,8 +192,8 @@ fn signed(x: u64) -> i64 {
     -1 - m
 }
 
-// The table's own functions. A row number is any that 64 bits hold.
-fn of_table(s: &[u8], q: Ask) {
+// The table's own functions, and the row shown. A row number is any that 64 bits hold.
+fn of_table<'a>(s: &'a [u8], set: &'a [u8], q: Ask) {
     let code = q.code;
     let row = q.x as usize;
     let shown = q.shown;
@@ -202,19 +203,23 @@ fn of_table(s: &[u8], q: Ask) {
         3 => say::bytes(say::fine(0, 0, 0), table::row_part(s, row), shown),
         4 => say::line(say::fine(1, table::next_row(s, row) as u64, 0)),
         5 => say::bytes(say::fine(0, 0, 0), table::first_row(s), shown),
-        _ => say::line(decoded(table::row_at(s, row))),
+        6 => say::line(decoded(table::row_at(s, row))),
+        _ => say::bytes(say::fine(0, 0, 0), changeset::shown(s, set, row), shown),
     }
 }
 
 // The lower sum of a window is where the floor of a listing is.
-fn in_window(s: &[u8], marks: &[u16], q: Ask) -> Answer {
+fn in_window(s: &[u8], set: &[u8], marks: &[u16], q: Ask) -> WindowAnswer {
     let sum_low = signed(q.x);
     let sum_high = signed(q.sum_high);
-    most(window::window(s, marks, q.count_low, q.count_high, sum_low, sum_high))
+    if q.code == 23 {
+        return window::window(s, marks, q.count_low, q.count_high, sum_low, sum_high);
+    }
+    frozen::window_with(s, set, marks, q.count_low, q.count_high, sum_low, sum_high)
 }
 
 // Those that lend nothing and change nothing.
-fn of_net(s: &[u8], marks: &[u16], q: Ask) -> Answer {
+fn of_net(s: &[u8], set: &[u8], marks: &[u16], q: Ask) -> Answer {
     let code = q.code;
     match code {
         17 => accepted(tree::accept(s)),
@@ -223,15 +228,41 @@ fn of_net(s: &[u8], marks: &[u16], q: Ask) -> Answer {
         20 => between(heaviest::heaviest_exact(s, marks)),
         21 => converted(convert::convert(s, marks)),
         22 => mark_of(marks, q.x as usize),
-        _ => in_window(s, marks, q),
+        _ => most(in_window(s, set, marks, q)),
     }
 }
 
-fn all_in_window(s: &[u8], marks: &[u16], q: Ask, rows: &mut [u8]) -> Answer {
+fn of_changed_net(s: &[u8], set: &[u8], marks: &[u16], q: Ask) -> Answer {
+    let code = q.code;
+    match code {
+        145 => accepted(frozen::accept_with(s, set)),
+        146 => found(frozen::pair_with(s, set, marks, q.a, q.b)),
+        147 => between(frozen::heaviest_with(s, set, marks)),
+        148 => between(frozen::heaviest_exact_with(s, set, marks)),
+        149 => converted(frozen::convert_with(s, set, marks)),
+        _ => most(in_window(s, set, marks, q)),
+    }
+}
+
+fn all_in_window(s: &[u8], set: &[u8], marks: &[u16], q: Ask, rows: &mut [u8]) -> Listed {
     let sum_low = signed(q.x);
     let sum_high = signed(q.sum_high);
-    listed(window::window_list(
+    if q.code == 35 {
+        return window::window_list(
+            s,
+            marks,
+            q.count_low,
+            q.count_high,
+            sum_low,
+            sum_high,
+            q.a,
+            q.b,
+            rows,
+        );
+    }
+    frozen::window_list_with(
         s,
+        set,
         marks,
         q.count_low,
         q.count_high,
@@ -240,54 +271,66 @@ fn all_in_window(s: &[u8], marks: &[u16], q: Ask, rows: &mut [u8]) -> Answer {
         q.a,
         q.b,
         rows,
-    ))
+    )
 }
 
-fn page(s: &[u8], marks: &[u16], q: Ask, rows: &mut [u8]) -> Answer {
+fn page(s: &[u8], set: &[u8], marks: &[u16], q: Ask, rows: &mut [u8]) -> Listed {
     let code = q.code;
     let floor = signed(q.x);
     match code {
-        33 => listed(listing::listing(s, marks, floor, q.a, q.b, rows)),
-        34 => listed(listing::listing_exact(s, marks, floor, q.a, q.b, rows)),
-        _ => all_in_window(s, marks, q, rows),
+        33 => listing::listing(s, marks, floor, q.a, q.b, rows),
+        34 => listing::listing_exact(s, marks, floor, q.a, q.b, rows),
+        161 => frozen::listing_with(s, set, marks, floor, q.a, q.b, rows),
+        162 => frozen::listing_exact_with(s, set, marks, floor, q.a, q.b, rows),
+        _ => all_in_window(s, set, marks, q, rows),
     }
 }
 
 // A page of as many bytes as are lent, each of which held 165.
-fn of_rows(s: &[u8], marks: &[u16], q: Ask) {
+fn of_rows(s: &[u8], set: &[u8], marks: &[u16], q: Ask) {
     let size = q.lent;
     let mut space = [165u8; 65536];
     let whole = &mut space[..];
     if size <= whole.len() {
         let rows = &mut whole[0..size];
-        let a = page(s, marks, q, rows);
+        let a = listed(page(s, set, marks, q, rows));
         say::bytes(a, rows, q.shown);
     }
 }
 
+fn heads(s: &[u8], set: &[u8], q: Ask, list: &mut [u16]) -> HeadsAnswer {
+    if q.code == 49 {
+        return spines::heads(s, list);
+    }
+    frozen::heads_with(s, set, list)
+}
+
 // A list of as many heads as are lent, each of which held 165.
-fn of_heads(s: &[u8], q: Ask) {
+fn of_heads(s: &[u8], set: &[u8], q: Ask) {
     let size = q.lent;
     let mut space = [165u16; 4200];
     let whole = &mut space[..];
     if size <= whole.len() {
         let list = &mut whole[0..size];
-        let a = headed(spines::heads(s, list));
+        let a = headed(heads(s, set, q, list));
         say::words(a, list, q.shown);
     }
 }
 
-fn change(s: &[u8], marks: &mut [u16], q: Ask) -> Answer {
+fn change(s: &[u8], set: &[u8], marks: &mut [u16], q: Ask) -> Change {
     let code = q.code;
     match code {
-        65 => changed(changes::claim(s, marks, q.run, q.a, q.b)),
-        66 => changed(changes::commit(s, marks, q.run)),
-        _ => changed(changes::abort(s, marks, q.run)),
+        65 => changes::claim(s, marks, q.run, q.a, q.b),
+        66 => changes::commit(s, marks, q.run),
+        67 => changes::abort(s, marks, q.run),
+        193 => frozen::claim_with(s, set, marks, q.run, q.a, q.b),
+        194 => frozen::commit_with(s, set, marks, q.run),
+        _ => frozen::abort_with(s, set, marks, q.run),
     }
 }
 
-fn of_marks(s: &[u8], marks: &mut [u16], q: Ask) {
-    let a = change(s, marks, q);
+fn of_marks(s: &[u8], set: &[u8], marks: &mut [u16], q: Ask) {
+    let a = changed(change(s, set, marks, q));
     say::words(a, marks, q.shown);
 }
 
@@ -299,28 +342,37 @@ fn of_bound(s: &mut [u8], q: Ask) {
     say::line(say::fine(0, 0, 0));
 }
 
+fn verdict_on(s: &[u8], set: &[u8], marks: &[u16], q: Ask, list: &[u8]) -> Vetted {
+    let floor = signed(q.x);
+    if q.code == 97 {
+        return vet::vet(s, marks, floor, list);
+    }
+    frozen::vet_with(s, set, marks, floor, list)
+}
+
 // A list to be read, of as many bytes as the ask says, which stand behind its text.
-fn of_list(s: &[u8], marks: &[u16], q: Ask) {
+fn of_list(s: &[u8], set: &[u8], marks: &[u16], q: Ask) {
     let size = q.lent;
     let mut space = [0u8; 65536];
     let whole = &mut space[..];
     if size <= whole.len() {
         let list = &mut whole[0..size];
         read::bytes(list);
-        say::line(vetted(vet::vet(s, marks, signed(q.x), list)));
+        say::line(vetted(verdict_on(s, set, marks, q, list)));
     }
 }
 
-pub(crate) fn answer(s: &mut [u8], marks: &mut [u16], q: Ask) {
+pub(crate) fn answer(s: &mut [u8], set: &[u8], marks: &mut [u16], q: Ask) {
     read::text(q.text);
     let sort = q.code / 16;
     match sort {
-        0 => of_table(s, q),
-        1 => say::line(of_net(s, marks, q)),
-        2 => of_rows(s, marks, q),
-        3 => of_heads(s, q),
-        4 => of_marks(s, marks, q),
+        0 | 8 => of_table(s, set, q),
+        1 => say::line(of_net(s, set, marks, q)),
+        2 | 10 => of_rows(s, set, marks, q),
+        3 | 11 => of_heads(s, set, q),
+        4 | 12 => of_marks(s, set, marks, q),
         5 => of_bound(s, q),
-        _ => of_list(s, marks, q),
+        9 => say::line(of_changed_net(s, set, marks, q)),
+        _ => of_list(s, set, marks, q),
     }
 }

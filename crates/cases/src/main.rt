@@ -4,34 +4,45 @@ mod asks;
 mod read;
 mod say;
 
-// The asks of a case, one after the other, on one table and one set of marks.
-fn each(s: &mut [u8], marks: &mut [u16], count: u16) {
+// The asks of a case, one after the other, on one table, one change set and one set of marks.
+fn each(s: &mut [u8], set: &[u8], marks: &mut [u16], count: u16) {
     let mut i: u16 = 0;
     while i < count {
-        asks::answer(s, marks, read::next_ask());
+        asks::answer(s, set, marks, read::next_ask());
         i += 1;
     }
 }
 
-fn with_marks(s: &mut [u8], count: u16, asks: u16) {
+fn with_marks(s: &mut [u8], set: &[u8], count: u16, asks: u16) {
     let size = count as usize;
     let mut space = [0u16; 4200];
     let whole = &mut space[..];
     if size <= whole.len() {
         let marks = &mut whole[0..size];
         read::marks(marks);
-        each(s, marks, asks);
+        each(s, set, marks, asks);
     }
 }
 
-fn with_table(count: u16, marks: u16, asks: u16) {
+fn with_set(s: &mut [u8], count: u16, marks: u16, asks: u16) {
+    let size = count as usize;
+    let mut space = [0u8; 57400];
+    let whole = &mut space[..];
+    if size <= whole.len() {
+        let set = &mut whole[0..size];
+        read::bytes(set);
+        with_marks(s, set, marks, asks);
+    }
+}
+
+fn with_table(count: u16, set: u16, marks: u16, asks: u16) {
     let size = count as usize;
     let mut space = [0u8; 49200];
     let whole = &mut space[..];
     if size <= whole.len() {
         let table = &mut whole[0..size];
         read::bytes(table);
-        with_marks(table, marks, asks);
+        with_set(table, set, marks, asks);
     }
 }
 
@@ -39,10 +50,11 @@ fn with_table(count: u16, marks: u16, asks: u16) {
 fn case() {
     let text = read::number();
     let table = read::number();
+    let set = read::number();
     let marks = read::number();
     let asks = read::number();
     read::text(text);
-    with_table(table, marks, asks);
+    with_table(table, set, marks, asks);
 }
 
 fn cases(count: u64) {

@@ -1,7 +1,7 @@
 -- Reading and writing allow one outcome each: a text says one thing at the most, two texts whose arcs are paired make
 -- one table, and rows have one text.
 use Prim.Native.Nat.{ℕ, _-_}
-use mathlib.Core.Path.{sym, _∙_}
+use mathlib.Core.Path.{_≡_, sym, _∙_}
 use mathlib.Core.List.{List}
 use native.Mathlib.Omega.{arith}
 use Rattle.table.specs.Refuse.{Only}
@@ -14,7 +14,7 @@ use Rattle.arcs.specs.Made.{TableOf}
 use Rattle.arcs.proofs.Theorems.{table-only}
 use Rattle.written.proofs.Only.{written-only}
 use Rattle.dimacs.specs.Read.{readRefusal, MakesTable, Trades, ReadOf}
-use Rattle.dimacs.specs.Write.{writeRefusal, GivesTexts, WriteOf}
+use Rattle.dimacs.specs.Write.{writeRefusal, GivesTexts, VersionOne, WriteOf}
 
 makes-only : (a b : Said) (bound : ℕ) (old : List ℕ) → Only (TableOf a b bound) → Only (MakesTable a b bound old)
 makes-only a b bound old one x y p q =
@@ -34,6 +34,10 @@ texts-only s n lengths weights x y p q =
     unless-only (λ _ _ e f. e ∙ sym f) x y (p .outcome)
     (rw (written-only (omega arith) (q .long-is) (p .long-is), written-only (omega arith) (q .heavy-is) (p .heavy-is))
     at (q .outcome))
+
+-- what it begins with gives one number
+pub version-one-only : (s : List ℕ) → Only (VersionOne ℕ (λ k r g. k) s (λ k. k ≡ 0))
+version-one-only s = unless-only (unless-only (unless-only (λ _ _ e f. e ∙ sym f)))
 
 -- WRITE HAS ONE OUTCOME
 pub write-only : (s lengths weights : List ℕ) → Only (WriteOf s lengths weights)

@@ -7,32 +7,27 @@ use mathlib.Core.List.{List, _++_}
 use native.Mathlib.Omega.{arith}
 use lib.ListN.{length, drop}
 use Rattle.table.specs.Refuse.{Unless, refused, passed}
-use Rattle.table.specs.Header.{Lettered, versionOf, nodesOf}
 use Rattle.table.proofs.Refusals.{unless-map, past}
 use Rattle.numbers.specs.Bytes.{EachByte}
 use Rattle.net.specs.Net.{firstEnd, secondEnd}
 use Rattle.net.specs.work.Net.{Net}
-use Rattle.tree.specs.Accept.{Begins}
 use Rattle.text.specs.work.Put.{Put}
 use Rattle.written.specs.work.Rows.{rowArc, RowsThere}
 use Rattle.written.specs.work.Texts.{textOf}
 use Rattle.written.proofs.Spelt.{lengths-written, weights-written}
-use Rattle.dimacs.specs.Write.{Wrote, writeRefusal, textIn, GivesTexts, WriteOf}
+use Rattle.dimacs.specs.Write.{Wrote, writeRefusal, textIn, GivesTexts, VersionOne}
 use Rattle.dimacs.specs.declared.WriteAnswer.the-variants.{Texts}
 
--- 1, 2, and 3 for any version but 1
-module _ (s lengths weights : List ℕ) {k : ℕ}
-    (p : Unless ℕ 1 (12 ≤ length s) (Unless ℕ 2 (Lettered s) (Unless ℕ 3 (versionOf s ≡ 1) (λ x. x ≡ 0))) k) where
-  abbrev refusal : ℕ → Wrote
-  refusal x = writeRefusal lengths weights x 0 0
+-- 1, 2, and 3 for any version but 1: how what begins with them hands a refusal on, and goes on
+module _ {A : Type 0} (refuse : ℕ → ℕ → ℕ → A) (s : List ℕ) {rest : A → Type 0} {k : ℕ}
+    (p : VersionOne ℕ (λ k r g. k) s (λ k. k ≡ 0) k) where
+  pub version-refused : k ≢ 0 → VersionOne A refuse s rest (refuse k 0 0)
+  version-refused n = unless-map to (λ _. unless-map to (λ _. unless-map to (λ _ e. absurd (n e)))) p
+    where
+      to : ℕ → A
+      to x = refuse x 0 0
 
-  pub version-refused : k ≢ 0 → WriteOf s lengths weights (writeRefusal lengths weights k 0 0)
-  version-refused n =
-      unless-map refusal (λ _. unless-map refusal (λ _. unless-map refusal (λ _ e. absurd (n e)))) p
-
-  pub version-on : k ≡ 0 → {o : Wrote}
-      → Begins Wrote (writeRefusal lengths weights) s (GivesTexts s (nodesOf s) lengths weights) o
-      → WriteOf s lengths weights o
+  pub version-on : k ≡ 0 → {o : A} → rest o → VersionOne A refuse s rest o
   version-on z r =
       let a = past (λ e. omega (arith, e, z)) p in
       let b = past (λ e. omega (arith, e, z)) (a .1) in

@@ -36,10 +36,16 @@ pub record GivesTexts (s : List ℕ) (n : ℕ) (lengths weights : List ℕ) (o :
       ((length long ≤ length lengths) × (length heavy ≤ length weights))
       (λ x. x ≡ (Texts (length long) (length heavy), textIn long lengths, textIn heavy weights)) o
 
+-- 1, 2, and 3 for any other version than 1; and then as the rest says
+abbrev pub VersionOne : (A : Type 0) → (ℕ → ℕ → ℕ → A) → List ℕ → (A → Type 0) → A → Type 0
+VersionOne A refuse s rest =
+    Unless A (refuse 1 0 0) (12 ≤ length s)
+    (Unless A (refuse 2 0 0) (Lettered s)
+    (Unless A (refuse 3 0 0) (versionOf s ≡ 1)
+    rest))
+
 -- 1 to 11, where 3 is any other version than 1; then the texts
 abbrev pub WriteOf : List ℕ → List ℕ → List ℕ → Wrote → Type 0
 WriteOf s lengths weights =
-    Unless Wrote (writeRefusal lengths weights 1 0 0) (12 ≤ length s)
-    (Unless Wrote (writeRefusal lengths weights 2 0 0) (Lettered s)
-    (Unless Wrote (writeRefusal lengths weights 3 0 0) (versionOf s ≡ 1)
-    (Begins Wrote (writeRefusal lengths weights) s (GivesTexts s (nodesOf s) lengths weights))))
+    VersionOne Wrote (writeRefusal lengths weights) s
+    (Begins Wrote (writeRefusal lengths weights) s (GivesTexts s (nodesOf s) lengths weights))

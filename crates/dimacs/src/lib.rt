@@ -6,6 +6,7 @@ mod writing;
 
 pub use reading::read;
 use tree::Refusal;
+pub use writing::version_one;
 pub use writing::write;
 
 // The size of the table made, or why not.

@@ -1,12 +1,8 @@
 // The operation write: a table of version 1 to two texts. Both sizes are known before a byte is written, so that a
 // refusal has written nothing.
 ghost use mathlib.Core.Path.{_≡_};
-ghost use Prim.Native.Nat.{_≤_};
-ghost use lib.ListN.{length};
-ghost use Rattle.table.specs.Refuse.{Unless};
-ghost use Rattle.table.specs.Header.{Lettered, versionOf};
 ghost use Rattle.net.specs.work.Net.{Net};
-ghost use Rattle.dimacs.specs.Write.{writeRefused, GivesTexts, WriteOf};
+ghost use Rattle.dimacs.specs.Write.{writeRefused, GivesTexts, VersionOne, WriteOf};
 use crate::WriteAnswer;
 use roads::LENGTH_TOP;
 use roads::WEIGHT_TOP;
@@ -31,10 +27,9 @@ fn refused(number: u8) -> WriteAnswer
     })
 }
 
-// 1, 2, and 3 for any version but 1; or 0.
-fn version_one(s: &[u8]) -> u8
-    ensures { λ k. ⌜ Unless _ 1 (12 ≤ length (now (s .entry)))
-        (Unless _ 2 (Lettered (now (s .entry))) (Unless _ 3 (versionOf (now (s .entry)) ≡ 1) (λ x. x ≡ 0))) k ⌝ }
+// Between crates: 1, 2, and 3 for any version but 1; or 0.
+pub fn version_one(s: &[u8]) -> u8
+    ensures { λ k. ⌜ VersionOne _ (λ k r g. k) (now (s .entry)) (λ k. k ≡ 0) k ⌝ }
 {
     if s.len() < 12 {
         return 1;

@@ -1,11 +1,12 @@
-// What has been handed over to the system: the one function that writes, and how far it has come.
+// What has been handed over to the system: the two functions that write, and how far they have come.
 ghost use Prim.Native.Nat.{_+_, _≤_};
 ghost use mathlib.Core.Path.{_≡_};
 ghost use lib.ListN.{length, take};
 ghost use Rattle.reporting.specs.Report.{Next};
+ghost use Rattle.reporting.specs.With.{ReportWith, WholeWith};
 
-// How many bytes of the report have been handed over. The field is private, so that `hand_over` alone raises it: a
-// report of which a part was left out does not come to its end.
+// How many bytes of the report have been handed over. The field is private, so that the two functions below alone raise
+// it: a report of which a part was left out does not come to its end.
 pub struct Handed {
     place: usize,
 }
@@ -26,4 +27,13 @@ pub(crate) fn hand_over(s: &[u8], out: &[u8], n: usize, handed: Handed) -> Hande
     Handed {
         place: handed.place + n,
     }
+}
+
+// A line to standard output that is the whole report of a table with a change set, as where the set is refused.
+pub(crate) fn hand_over_line(table: &[u8], changes: &[u8], line: &[u8]) -> Handed
+    requires { ⌜ ReportWith (now table) (now changes) (now line) ⌝ }
+    ensures { λ r. ⌜ WholeWith (now (table .entry)) (now (changes .entry)) (r .place) ⌝ }
+{
+    io::write_all(libc::STDOUT_FILENO, line);
+    Handed { place: line.len() }
 }

@@ -5,3 +5,4 @@ pub mod Level
 pub mod Whole
 pub mod Steps
 pub mod Only
+pub mod With

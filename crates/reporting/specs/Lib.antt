@@ -1,4 +1,5 @@
 -- What a reader must believe of this crate; work holds what its functions promise each other, no part of an operation's
 -- promise.
 pub mod Report
+pub mod With
 pub mod work

@@ -35,7 +35,7 @@ module _ {A : Type 0} (R : A → A → Type 0) (refuse : ℕ → ℕ → A) (sel
       → Tested A refuse s rest x → Tested A refuse s rest′ y → R x y
   tested-both o = header-both (first-bad-both R self (row-number-only (nodesOf s) s) o)
 
-header-only : {A : Type 0} (refuse : ℕ → ℕ → A) (s : List ℕ) {rest : A → Type 0} → Only rest
+pub header-only : {A : Type 0} (refuse : ℕ → ℕ → A) (s : List ℕ) {rest : A → Type 0} → Only rest
     → Only (Header A refuse s rest)
 header-only refuse s = header-both (λ x y. x ≡ y) refuse (λ k r. refl) s
 

@@ -28,11 +28,19 @@ fn back(s: &[u8], lengths: &[u8], weights: &[u8], bound: usize, shown: usize)
     reading(lengths, weights, bound, s.len(), shown);
 }
 
-// Both texts of a table, into what is lent for each, and where nothing is refused read back.
-fn writing(s: &[u8], lengths: &mut [u8], weights: &mut [u8], bound: usize, shown: usize)
-    requires { ⌜ bound < 4294967296 ⌝ }
+// Both texts of a table, or of the table with its change set, into what is lent for each.
+fn texts(s: &[u8], set: &[u8], lengths: &mut [u8], weights: &mut [u8], q: Ask) -> WriteAnswer {
+    if q.code == 2 {
+        return dimacs::write(s, lengths, weights);
+    }
+    frozen::write_with(s, set, lengths, weights)
+}
+
+// These, and where nothing is refused they are read back.
+fn writing(s: &[u8], set: &[u8], lengths: &mut [u8], weights: &mut [u8], q: Ask)
+    requires { ⌜ q .x < 4294967296 ⌝ }
 {
-    let o = dimacs::write(s, lengths, weights);
+    let o = texts(s, set, lengths, weights, q);
     say::wrote(o, lengths, weights);
     match o {
         WriteAnswer::Refused(_) => {}
@@ -44,7 +52,7 @@ fn writing(s: &[u8], lengths: &mut [u8], weights: &mut [u8], bound: usize, shown
                 if b <= weights.len() {
                     let long = &lengths[0..a];
                     let heavy = &weights[0..b];
-                    back(s, long, heavy, bound, shown);
+                    back(s, long, heavy, q.x, q.shown);
                 }
             }
         }
@@ -57,37 +65,32 @@ fn text_space() -> [u8; 400000] {
 }
 
 // Of it, as much as is lent.
-fn with_weights(
-    s: &[u8],
-    lengths: &mut [u8],
-    space: &mut [u8],
-    room: usize,
-    bound: usize,
-    shown: usize,
-)
-    requires { ⌜ bound < 4294967296 ⌝ }
+fn with_weights(s: &[u8], set: &[u8], lengths: &mut [u8], space: &mut [u8], q: Ask)
+    requires { ⌜ q .x < 4294967296 ⌝ }
 {
+    let room = q.z;
     if room <= space.len() {
         let weights = &mut space[0..room];
-        writing(s, lengths, weights, bound, shown);
+        writing(s, set, lengths, weights, q);
     }
 }
 
-fn with_lengths(s: &[u8], space: &mut [u8], room: usize, weights: usize, bound: usize, shown: usize)
-    requires { ⌜ bound < 4294967296 ⌝ }
+fn with_lengths(s: &[u8], set: &[u8], space: &mut [u8], q: Ask)
+    requires { ⌜ q .x < 4294967296 ⌝ }
 {
+    let room = q.y;
     if room <= space.len() {
         let lengths = &mut space[0..room];
         let mut other = text_space();
-        with_weights(s, lengths, &mut other, weights, bound, shown);
+        with_weights(s, set, lengths, &mut other, q);
     }
 }
 
-fn written(s: &[u8], q: Ask)
+fn written(s: &[u8], set: &[u8], q: Ask)
     requires { ⌜ q .x < 4294967296 ⌝ }
 {
     let mut space = text_space();
-    with_lengths(s, &mut space, q.y, q.z, q.x, q.shown);
+    with_lengths(s, set, &mut space, q);
 }
 
 // A byte of an input is another one from here on.
@@ -104,8 +107,8 @@ pub(crate) fn answer(first: &mut [u8], second: &mut [u8], q: Ask)
     let code = q.code;
     match code {
         1 => reading(first, second, q.x, q.y, q.shown),
-        2 => written(first, q),
         3 => change(first, q.x, q.y),
-        _ => change(second, q.x, q.y),
+        4 => change(second, q.x, q.y),
+        _ => written(first, second, q),
     }
 }

@@ -8,17 +8,20 @@ use Rattle.reports.proofs.cases.Statement.{statement}
 use Rattle.reports.proofs.cases.Tie as tie
 
 abbrev Inv-loop : tie.InvT-loop
-Inv-loop count input₀ rows₀ out₀ i₀ input rows out i =
-    (length input ≡ length input₀) × (length rows ≡ length rows₀) × (length out ≡ length out₀)
+Inv-loop count input₀ changes₀ rows₀ out₀ i₀ input changes rows out i =
+    (length input ≡ length input₀)
+    × (length changes ≡ length changes₀)
+    × (length rows ≡ length rows₀)
+    × (length out ≡ length out₀)
 
 abbrev μ-loop : tie.MeasureT-loop
-μ-loop count input₀ rows₀ out₀ i₀ input rows out i = count - i
+μ-loop count input₀ changes₀ rows₀ out₀ i₀ input changes rows out i = count - i
 
 loop-holds : tie.Need-loop-holds Inv-loop μ-loop
-loop-holds c = (refl, refl, refl)
+loop-holds c = (refl, refl, refl, refl)
 
 case-requires : tie.Need-case-requires Inv-loop μ-loop
-case-requires c κs = (omega arith, omega arith, omega arith)
+case-requires c κs = (omega arith, omega arith, omega arith, omega arith)
 
 add-i : tie.Need-add-i Inv-loop μ-loop
 add-i c = omega arith
@@ -27,7 +30,7 @@ loop-less : tie.Need-loop-less Inv-loop μ-loop
 loop-less c = omega arith
 
 loop-again : tie.Need-loop-again Inv-loop μ-loop
-loop-again c = (omega arith, omega arith, omega arith)
+loop-again c = (omega arith, omega arith, omega arith, omega arith)
 
 same-length : tie.Need-same-length Inv-loop μ-loop
 same-length c = c .before .loop .inv .0
@@ -38,6 +41,9 @@ same-length-2 c = c .before .loop .inv .1
 same-length-3 : tie.Need-same-length-3 Inv-loop μ-loop
 same-length-3 c = c .before .loop .inv .2
 
+same-length-4 : tie.Need-same-length-4 Inv-loop μ-loop
+same-length-4 c = c .before .loop .inv .3
+
 returns : tie.Need-returns Inv-loop μ-loop
 returns c = search needs
 
@@ -45,4 +51,4 @@ pub cases-spec : {M : Type 1} → statement M
 cases-spec =
     tie.close
     (tie.spec Inv-loop μ-loop loop-holds case-requires add-i loop-less loop-again same-length same-length-2
-    same-length-3 returns)
+    same-length-3 same-length-4 returns)

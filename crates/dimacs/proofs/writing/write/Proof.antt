@@ -16,8 +16,8 @@ returns : tie.Need-returns
 returns c =
     let args = c .before .before .before .before .before .before .args in
     rw (c .refused .ensures)
-    (version-refused (args .s .now) (args .lengths .now) (args .weights .now) (c .before .before .version-one .ensures)
-    (c .before .if1 .taken))
+    (version-refused (writeRefusal (args .lengths .now) (args .weights .now)) (args .s .now)
+    (c .before .before .version-one .ensures) (c .before .if1 .taken))
 
 accept-requires : tie.Need-accept-requires
 accept-requires c κs = search needs
@@ -41,7 +41,7 @@ returns-2 c =
     let if1-left = c .before .before .before .before .if1 .left in
     let version-one-ensures = c .before .before .before .before .before .version-one .ensures in
     let args = c .before .before .before .before .before .before .before .before .before .args in
-    version-on (args .s .now) (args .lengths .now) (args .weights .now) version-one-ensures if1-left
+    version-on (writeRefusal (args .lengths .now) (args .weights .now)) (args .s .now) version-one-ensures if1-left
     (refused-on (writeRefusal (args .lengths .now) (args .weights .now)) (args .s .now) _
     (rw (c .before .o .given .1) at accept-ensures))
 
@@ -61,7 +61,7 @@ returns-3 c =
     let version-one-ensures = back .before .before .version-one .ensures in
     let args = back .before .before .before .before .before .before .args in
     let p = rw (o2-given .1) at accept-ensures in
-    version-on (args .s .now) (args .lengths .now) (args .weights .now) version-one-ensures if1-left
+    version-on (writeRefusal (args .lengths .now) (args .weights .now)) (args .s .now) version-one-ensures if1-left
     (passed-on (writeRefusal (args .lengths .now) (args .weights .now)) (args .s .now) _ _ p
     (rw (admitted (args .s .now) _ _ p .nodes) at write-net-ensures))
 

@@ -1,0 +1,3 @@
+-- Working statements: what functions promise each other, and no part of an operation's promise.
+pub mod Buffer
+pub mod Search

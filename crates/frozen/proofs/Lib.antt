@@ -1,0 +1,4 @@
+-- Laws of the operations with a change set.
+pub mod None
+pub mod Only
+pub mod Theorems
