@@ -1,11 +1,12 @@
 /* Measures the library beside the plain scan: one run, the same tables, marks and buffers, lent to both. Writes the
    figures to standard output, the plot of heaviest, with the second argument below it, to the file that the first
    names, and how far it is to standard error. Ends with status 1 where the two give different answers, a window has no
-   pair, a list is not vetted as it was made, or an operation with a change set differs from the same one on the changed
-   table. */
+   pair, a list is not vetted as it was made, an operation with a change set differs from the same one on the changed
+   table, or a table made row by row is not the one that it was made of. */
 #include "hourbench.h"
 #include "lists.h"
 #include "nets.h"
+#include "rows.h"
 #include "scan.h"
 #include "sets.h"
 #include "timing.h"
@@ -18,16 +19,18 @@
 enum { SIZES = 3, PAGE = 65536 };
 /* The operations that are measured, and from OPS on those that are only compared; 2: of the table of version 2. */
 enum op { HEAVIEST, HEAVIEST_EXACT, LISTING, LISTING_EXACT, WINDOW, WINDOW_LIST, WINDOW_HALF, WINDOW_LIST_HALF,
-          PAIR, PAIR_2, CLAIM, CONVERT, ACCEPT, RING, OPS,
-          ACCEPT_2 = OPS, HEAVIEST_2, LISTING_2, WINDOW_2, WINDOW_LIST_2, COMMIT, ALL };
+          PAIR, PAIR_2, CLAIM, CONVERT, ACCEPT, ACCEPT_2, RING, OPS,
+          RING_2 = OPS, HEAVIEST_2, LISTING_2, WINDOW_2, WINDOW_LIST_2, COMMIT, ALL };
 static const size_t sizes[SIZES] = {256, 1024, 4096};
 static const char *op_names[ALL] = {"Heaviest", "Heaviest exact", "Listing", "Listing exact", "Window", "Window list",
                                     "Window with an upper limit", "Window list with an upper limit",
-                                    "Pair", "Pair, version 2", "Claim and abort", "Convert", "Acceptance", "Refusal 11",
-                                    "Acceptance, version 2", "Heaviest, version 2", "Listing, version 2",
-                                    "Window, version 2", "Window list, version 2", "Claim and commit"};
+                                    "Pair", "Pair, version 2", "Claim and abort", "Convert", "Acceptance",
+                                    "Acceptance, version 2", "Refusal 11", "Refusal 11, version 2",
+                                    "Heaviest, version 2", "Listing, version 2", "Window, version 2",
+                                    "Window list, version 2", "Claim and commit"};
 
-static uint8_t table[12 * 4096], table_2[12 * 4096], ringed[12 * 4096], page_scan[PAGE], page_library[PAGE];
+static uint8_t table[12 * 4096], table_2[12 * 4096], ringed[12 * 4096], ringed_2[12 * 4096];
+static uint8_t page_scan[PAGE], page_library[PAGE];
 static uint16_t marks_scan[4096], marks_library[4096];
 static size_t n, table_len;
 static double took[SHAPES][SIZES][OPS][2]; /* seconds a call: scan, library */
@@ -83,7 +86,8 @@ static void call(int op, int library, uint16_t a, uint16_t b, int64_t answer[8])
                                                       0, 0, page, PAGE, answer);
         break;
     case CONVERT: (library ? hb_convert : scan_convert)(table, table_len, marks, m, answer); break;
-    case RING: (library ? hb_accept : scan_accept)(ringed, table_len, answer); break;
+    case RING:
+    case RING_2: (library ? hb_accept : scan_accept)(op == RING ? ringed : ringed_2, table_len, answer); break;
     default:
         (library ? hb_claim : scan_claim)(table, table_len, marks, m, 7, (uint16_t)best[3], (uint16_t)best[4], answer);
         if (op == CLAIM) (library ? hb_abort : scan_abort)(table, table_len, marks, m, 7, answer);
@@ -151,12 +155,13 @@ static void mark_every_third(uint16_t mark, uint16_t other) {
 }
 
 /* The next net of a shape, all branches free; its heaviest runs are what listings and claims go by, its most branches
-   what windows do. Beside it the same net weighed by kind, and the same with a ring. */
+   what windows do. Beside it the same net weighed by kind, and both with a ring. */
 static void take_net(int shape, size_t nodes, enum lengths lengths) {
     n = nodes;
     table_len = make_net(shape, n, lengths, table);
     memcpy(table_2, table, table_len), weigh_by_kind(n, table_2);
     memcpy(ringed, table, table_len), close_ring(n, ringed);
+    memcpy(ringed_2, table_2, table_len), close_ring(n, ringed_2);
     memset(marks_scan, 0, sizeof marks_scan), memset(marks_library, 0, sizeof marks_library);
     memset(page_scan, 0, PAGE), memset(page_library, 0, PAGE);
     scan_heaviest(table, table_len, marks_scan, n - 1, best);
@@ -314,6 +319,7 @@ int main(int argc, char **argv) {
     differ |= measure_lists();
     differ |= measure_trades();
     differ |= measure_sets();
+    differ |= measure_rows();
     printf("%s\n", differ ? "ANSWERS DIFFER, A WINDOW IS EMPTY, OR A LIST IS NOT VETTED AS IT WAS MADE"
                           : "All answers were equal.");
     plot(argv[1], argv[2]);

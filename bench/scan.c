@@ -9,7 +9,7 @@
 enum { MOST = 4096, MOST_RUN = 32766, SPENT = 32768 /* a mark's top bit */ };
 
 typedef struct {
-    size_t n;
+    size_t n, filler; /* how many rows are filler */
     int64_t bound;
     uint16_t a[MOST], b[MOST];       /* each row's ends */
     int32_t length[MOST], weight[MOST]; /* a marked row weighs the lesser of 0 and its own */
@@ -94,12 +94,14 @@ static uint8_t refuse_ring(net *t, size_t r, int64_t answer[8]) {
     return 11;
 }
 
+static int is_filler(uint32_t kind) { return kind >= 24 && kind < 32; }
+
 /* What a kind below 64 scores. */
 static int32_t score(uint32_t kind) {
     static const int32_t scores[24] = {1,  2,  2,  3,  3,  4,  4,  5,  6,  6,  8,  8,
                                        10, 10, 12, 12, 14, 14, 16, 16, 18, 20, 22, 24};
     if (kind < 24) return scores[kind];
-    return kind < 32 ? 0 : -50; /* filler; blocked ground */
+    return is_filler(kind) ? 0 : -50; /* else blocked ground */
 }
 
 /* 1 to 11, and 22 and 23 where 10 stands for version 1. Rows that pass 11 join all nodes. */
@@ -112,7 +114,7 @@ static uint8_t open_net(const uint8_t *s, size_t len, net *t, int64_t answer[8])
     if (n == 0 || n > MOST) return refuse(answer, 4, 0);
     if (s[7] != 0) return refuse(answer, 5, 0);
     if (len != 12 * n) return refuse(answer, 6, 0);
-    t->n = n;
+    t->n = n, t->filler = 0;
     t->bound = u32(s + 8);
     for (size_t r = 0; r + 1 < n; r++) {
         const uint8_t *p = s + 12 + 12 * r;
@@ -129,6 +131,7 @@ static uint8_t open_net(const uint8_t *s, size_t len, net *t, int64_t answer[8])
             if (kind >= 64) return refuse(answer, 22, r);
             if (count > 20000) return refuse(answer, 23, r);
             weight = (int32_t)count * score(kind);
+            t->filler += (size_t)is_filler(kind);
         }
         t->a[r] = (uint16_t)a, t->b[r] = (uint16_t)b, t->length[r] = (int32_t)length, t->weight[r] = weight;
     }
@@ -165,7 +168,7 @@ uint8_t scan_accept(const uint8_t *table, size_t table_len, int64_t answer[8]) {
     uint8_t number = open_net(table, table_len, &t, answer);
     if (number) return number;
     refuse(answer, 0, 0);
-    answer[3] = (int64_t)t.n, answer[4] = t.bound;
+    answer[3] = (int64_t)t.n, answer[4] = t.bound, answer[5] = (int64_t)t.filler;
     return 0;
 }
 

@@ -1,7 +1,7 @@
 /* How much stack each operation takes: on a thread whose stack was painted, over the five nets of 4,096 nodes
    in both versions and the same with a ring, over the texts of each net, of more arcs than a net has, and of a ring;
-   with a change set over the same nets, of no entry and of every row. The most of all is told, and the most where no
-   table has a ring. */
+   with a change set over the same nets, of no entry and of every row; of a row written, and refused. The most of all is
+   told, and the most where no table has a ring. */
 #include "hourbench.h"
 #include "nets.h"
 #include <pthread.h>
@@ -10,11 +10,11 @@
 #include <string.h>
 
 enum { STACK = 2 << 20, NODES = 4096, BRANCHES = NODES - 1, TEXT = 1 << 18, PAINT = 0xA5, RUBBISH = 0xEE };
-enum { READ = 15, OPS = 17 }; /* READ, of texts, takes no set */
+enum { READ = 15, WRITE_ROW = 17, OPS = 18 }; /* READ, of texts, and WRITE_ROW, of numbers, take no set */
 static const char *names[OPS] = {"(the thread itself)", "hb_accept", "hb_pair", "hb_heaviest", "hb_heaviest_exact",
                                  "hb_heads", "hb_listing", "hb_listing_exact", "hb_window", "hb_window_list", "hb_vet",
                                  "hb_claim", "hb_commit", "hb_abort", "hb_convert", "hb_dimacs_read",
-                                 "hb_dimacs_write"};
+                                 "hb_dimacs_write", "hb_write_row"};
 static uint8_t table[12 * NODES], made[12 * NODES], page[65536], lengths[TEXT], weights[TEXT], text[TEXT], other[TEXT];
 static uint8_t frozen[12 * NODES], set[6 + 14 * BRANCHES];
 static uint8_t list[65536]; /* the listing's first rows */
@@ -60,6 +60,10 @@ static void ask(int op, const over *net) {
     case 14: ASK(convert, marks, m, answer); break;
     case READ: hb_dimacs_read(lengths, lengths_len, weights, weights_len, 0, made, sizeof made, answer); break;
     case 16: ASK(dimacs_write, text, TEXT, other, TEXT, answer); break;
+    case WRITE_ROW:
+        hb_write_row(4094, 4095, 1000000, 63, 20000, page, 12, answer);
+        hb_write_row(4094, 4095, 1000000, 63, 20000, page, 11, answer);
+        break;
     }
 }
 
@@ -152,7 +156,7 @@ int main(void) {
         printf("| `%s` |", names[op]);
         for (int with = 0; with < 2; with++) {
             size_t own = most[with][0], all = most[with][op], rings = ringed[with][op];
-            if (with && op == READ) printf(" | |");
+            if (with && (op == READ || op == WRITE_ROW)) printf(" | |");
             else printf(" %zu | %zu |", ((all > rings ? all : rings) - own + 1023) / 1024, (all - own + 1023) / 1024);
         }
         printf("\n");

@@ -15,9 +15,9 @@
    - No pointer is null, also where the length is 0: any address that suits the type does for nothing.
    - Each pointer is aligned for its type, and the elements that its length counts are there, initialised and readable;
      `answer` has 8. A parameter without `const` is writable.
-   - Memory that is written (`heads`, `rows`, `marks` of claim, commit and abort, what the two hb_dimacs functions
-     write, and `answer`) overlaps no other argument, and no other thread reads or writes it before the call returns.
-     Memory that is read is not changed before the call returns.
+   - Memory that is written (`heads`, `rows`, `row`, `marks` of claim, commit and abort, what the two hb_dimacs
+     functions write, and `answer`) overlaps no other argument, and no other thread reads or writes it before the call
+     returns. Memory that is read is not changed before the call returns.
    - There is stack for the operation's work arrays (docs/LINKING.md says how much); there is no heap, and nothing is
      kept between calls, so that calls from several threads do not meet.
 
@@ -29,7 +29,8 @@
              - in version 2 a cell kind, 0 to 63, and a count, 0 to 20,000, 16 bits unsigned each. The branch weighs
                count x score. Kinds 0 to 23 score, in order, 1, 2, 2, 3, 3, 4, 4, 5, 6, 6, 8, 8, 10, 10, 12, 12, 14, 14,
                16, 16, 18, 20, 22, 24; kinds 24 to 31 are filler and score 0; kinds 32 to 63 are blocked ground and
-               score -50.
+               score -50. Filler is no longer placed as spare: hb_write_row refuses these kinds; tables that have them
+               are read as ever, and hb_accept gives how many such rows there are.
              The rows must join all nodes in a tree
    marks     one number for each branch, in row order, n - 1 of them: the top bit says spent, the other fifteen bits
              keep the run. So 0 is free, 7 held by run 7, 32,775 spent by it (HB_RUN and HB_SPENT below). Run numbers
@@ -79,8 +80,11 @@
        32  the list's size is no multiple of 16
        33  the change set: letters not RTN, version or sort not 1, or a size other than 6 plus a multiple of 14
        34  the change set: a row number not above the one before it, or not below n - 1
-   Every function but hb_dimacs_read begins with 1 to 11; for rows of version 2, 22 and then 23 stand where 10 does.
-   With a change set 33 and then 34, which name no row, stand between 6 and 7, and 7 to 11 are the changed table's. */
+       35  retired kind: 24 to 31, filler, which is not written
+       39  lent bytes not 12 long
+   Every function but hb_dimacs_read and hb_write_row begins with 1 to 11; for rows of version 2, 22 and then 23 stand
+   where 10 does. With a change set 33 and then 34, which name no row, stand between 6 and 7, and 7 to 11 are the
+   changed table's. */
 #ifndef HOURBENCH_H
 #define HOURBENCH_H
 
@@ -88,9 +92,9 @@
 #include <stdint.h>
 
 /* The library's version; CHANGES.md says how it moves. */
-#define HB_VERSION "1.9.0"
+#define HB_VERSION "1.10.0"
 #define HB_VERSION_MAJOR 1
-#define HB_VERSION_MINOR 9
+#define HB_VERSION_MINOR 10
 #define HB_VERSION_PATCH 0
 
 /* Of a mark: HB_RUN, the run by which its branch is held or spent, 0 where free; HB_SPENT, whether it is spent. */
@@ -101,7 +105,7 @@
 extern "C" {
 #endif
 
-/* Is the table a tree? Fields: nodes, bound. */
+/* Is the table a tree? Fields: nodes, bound, filler: how many rows are of kinds 24 to 31, 0 in a version 1 table. */
 uint8_t hb_accept(const uint8_t *table, size_t table_len, int64_t *answer);
 
 /* The path between two nodes, in either order; one longer than the bound is shown. Fields: length, weight, hops.
@@ -186,6 +190,13 @@ uint8_t hb_dimacs_read(const uint8_t *lengths, size_t lengths_len, const uint8_t
    one of the texts: then nothing is written for the other either. */
 uint8_t hb_dimacs_write(const uint8_t *table, size_t table_len, uint8_t *lengths, size_t lengths_len,
                         uint8_t *weights, size_t weights_len, int64_t *answer);
+
+/* One row of a version 2 table, into `row`, which is 12 bytes long: the two nodes, length, kind and count, as a table
+   has them. Any numbers are taken; what is written is a good row of every version 2 table that has both nodes. It is
+   written with no table at hand, so that 7 is a node above 4,095 here. No fields. 7, 8, 9, 22, 35, 23, 39, in that
+   order, all with row 0. */
+uint8_t hb_write_row(uint16_t a, uint16_t b, uint32_t length, uint16_t kind, uint16_t count,
+                     uint8_t *row, size_t row_len, int64_t *answer);
 
 /* With a change set: each as the function without _with, of the table with the set's rows written in. Its other memory
    and numbers, its fields and, but for 33 and 34, its refusals are as that function has them. */

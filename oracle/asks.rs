@@ -1,6 +1,6 @@
 //! An ask: an operation and its numbers; what it answers; its line (README.md has the form of both).
 use crate::changes;
-use crate::net::{self, Lengths, Mark, Refused, Vetted, Window};
+use crate::net::{self, Cells, Lengths, Mark, Refused, Vetted, Window};
 
 /// What every lent byte and every lent head holds before a call.
 pub const LENT: u8 = 165;
@@ -23,6 +23,9 @@ pub enum Op {
     Listing,
     ListingExact,
     WindowList,
+    WriteRow,
+    /// The table row by row, by the writer (README.md).
+    WriteRows,
     Heads,
     Claim,
     Commit,
@@ -33,7 +36,7 @@ pub enum Op {
 }
 
 /// Each operation's code in an ask.
-pub const CODES: [(Op, u16); 22] = [
+pub const CODES: [(Op, u16); 24] = [
     (Op::Open, 1),
     (Op::Examine, 2),
     (Op::RowPart, 3),
@@ -50,6 +53,8 @@ pub const CODES: [(Op, u16); 22] = [
     (Op::Listing, 33),
     (Op::ListingExact, 34),
     (Op::WindowList, 35),
+    (Op::WriteRow, 36),
+    (Op::WriteRows, 37),
     (Op::Heads, 49),
     (Op::Claim, 65),
     (Op::Commit, 66),
@@ -64,7 +69,8 @@ pub const WITH: u16 = 128;
 /// The text is what its line begins with. `with` is whether it is asked with the case's change set. `lent` is how many
 /// bytes or heads are lent, or bytes of a list, `shown` how many elements of the lent memory the line shows; a and b
 /// are two nodes or a starting pair, x a row number, a bound, or the 64 bits of a floor or of a window's lower sum; its
-/// upper sum, and its lower and upper count limit, stand by themselves, and so does the list that is vetted.
+/// upper sum, and its lower and upper count limit, stand by themselves, and so does the list that is vetted. Of a row
+/// to be written a and b are the nodes, the run is its kind, and the two counts are its length and its count.
 #[derive(Clone, PartialEq, Debug)]
 pub struct Ask {
     pub op: Op,
@@ -123,6 +129,7 @@ impl Ask {
     pub fn takes_set(&self) -> bool {
         match self.op {
             Op::Open | Op::Examine | Op::NextRow | Op::FirstRow | Op::Row | Op::Reading | Op::Bound => false,
+            Op::WriteRow | Op::WriteRows => false,
             Op::RowPart | Op::Accept | Op::Pair | Op::Heaviest | Op::HeaviestExact | Op::Convert | Op::Window => true,
             Op::Listing | Op::ListingExact | Op::WindowList | Op::Heads => true,
             Op::Claim | Op::Commit | Op::Abort | Op::Vet => true,
@@ -140,6 +147,18 @@ impl Ask {
         Window { counts: self.counts, sums: [self.x as i64, self.sum_high] }
     }
 
+    /// With the numbers of a row to be written, and how many bytes are lent for it.
+    pub fn of_cells(self, row: Cells, lent: u16) -> Ask {
+        let [a, b] = row.ends;
+        Ask { a, b, run: row.kind, counts: [row.length, row.count as u32], lent, ..self }
+    }
+
+    /// The row to be written that it has the numbers of.
+    fn cells(&self) -> Cells {
+        let count = self.counts[1].try_into().expect("a count of 16 bits");
+        Cells { ends: [self.a, self.b], length: self.counts[0], kind: self.run, count }
+    }
+
     /// With a list to be vetted, and the floor.
     pub fn of_list(self, floor: i64, list: Vec<u8>) -> Ask {
         let lent = list.len().try_into().expect("a list of at most 65,535 bytes");
@@ -149,11 +168,10 @@ impl Ask {
     /// How many fields the operation's answer has.
     pub fn many(&self) -> usize {
         match self.op {
-            Op::RowPart | Op::FirstRow | Op::Convert | Op::Heads | Op::Bound => 0,
+            Op::RowPart | Op::FirstRow | Op::Convert | Op::Heads | Op::WriteRow | Op::Bound => 0,
             Op::NextRow | Op::Claim | Op::Commit | Op::Abort => 1,
-            Op::Open | Op::Examine | Op::Accept | Op::Reading => 2,
-            Op::Listing | Op::ListingExact | Op::WindowList => 2,
-            Op::Pair => 3,
+            Op::Open | Op::Examine | Op::Reading | Op::Listing | Op::ListingExact | Op::WindowList => 2,
+            Op::Accept | Op::Pair | Op::WriteRows => 3,
             Op::Row | Op::Heaviest | Op::HeaviestExact | Op::Window | Op::Vet => 4,
         }
     }
@@ -176,6 +194,7 @@ impl Ask {
     fn fields(&self, t: &[u8], marks: &mut [u16], rows: &mut [u8], heads: &mut [u16]) -> Result<Vec<i128>, Refused> {
         let run = |(a, b, length, weight)| vec![a as i128, b as i128, length as i128, weight as i128];
         let listed = |(written, left)| vec![written as i128, left as i128];
+        let accepted = |(n, bound, filler)| vec![n as i128, bound as i128, filler as i128];
         let mut page = |lengths| net::listing(t, marks, lengths, self.x as i64, (self.a, self.b), rows);
         match self.op {
             Op::Open => net::open(t).map(|(n, bound)| vec![n as i128, bound as i128]),
@@ -186,7 +205,7 @@ impl Ask {
                 let row = net::decoded(t, self.x);
                 Ok(run((row.ends[0], row.ends[1], row.length, row.weight)))
             }
-            Op::Accept => net::accept(t).map(|net| vec![net.n as i128, net.bound as i128]),
+            Op::Accept => net::acceptance(t).map(accepted),
             Op::Pair => net::pair(t, marks, self.a, self.b).map(|(l, w, h)| vec![l as i128, w as i128, h as i128]),
             Op::Heaviest => net::heaviest(t, marks).map(run),
             Op::HeaviestExact => net::heaviest_exact(t, marks).map(run),
@@ -197,6 +216,8 @@ impl Ask {
             Op::Listing => page(Lengths::AtMost).map(listed),
             Op::ListingExact => page(Lengths::Exactly).map(listed),
             Op::WindowList => net::window_list(t, marks, self.window(), (self.a, self.b), rows).map(listed),
+            Op::WriteRow => net::write_row(self.cells(), rows).map(|_| vec![]),
+            Op::WriteRows => net::write_rows(t, rows).map(accepted),
             Op::Heads => net::heads(t, heads).map(|_| vec![]),
             Op::Claim => net::claim(t, marks, self.run, self.a, self.b).map(|k| vec![k as i128]),
             Op::Commit => net::commit(t, marks, self.run).map(|k| vec![k as i128]),
@@ -208,8 +229,8 @@ impl Ask {
     /// What the documents say to it: of the table, or of the table with the rows of the change set written in. Claim,
     /// commit and abort change the marks, a bound changes the table.
     pub fn answer(&self, t: &mut [u8], set: &[u8], marks: &mut [u16]) -> Said {
-        let mut rows = vec![LENT; self.lent as usize];
-        let mut heads = vec![LENT as u16; self.lent as usize];
+        let lent = if self.op == Op::WriteRows { t.len() } else { self.lent as usize };
+        let (mut rows, mut heads) = (vec![LENT; lent], vec![LENT as u16; lent]);
         let wide = |bytes: &[u8]| Some(bytes.iter().map(|b| *b as u16).collect());
         if self.op == Op::Bound {
             net::set_bound(t, self.x as u32);
@@ -223,7 +244,7 @@ impl Ask {
             Op::RowPart if self.with => wide(changes::shown(t, set, self.x)),
             Op::RowPart => wide(net::part(t, self.x)),
             Op::FirstRow => wide(net::first(t)),
-            Op::Listing | Op::ListingExact | Op::WindowList => wide(&rows),
+            Op::Listing | Op::ListingExact | Op::WindowList | Op::WriteRow | Op::WriteRows => wide(&rows),
             Op::Heads => Some(heads),
             Op::Claim | Op::Commit | Op::Abort => Some(marks.to_vec()),
             _ => None,

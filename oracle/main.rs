@@ -85,7 +85,7 @@ fn make(seed: u64, count: usize, limit: usize, with_worked: bool) -> Vec<Case> {
     let known = if with_worked { worked() } else { vec![] };
     let mut random: Vec<Case> = make::random_cases(seed, count, limit).into_iter().map(|p| p.case()).collect();
     if let Some(first) = random.first_mut().filter(|_| with_worked) {
-        first.text = "\nRandom cases, forty-seven lines each.\n".to_string();
+        first.text = "\nRandom cases, fifty lines each.\n".to_string();
     }
     known.into_iter().map(|(case, _)| case).chain(random).collect()
 }

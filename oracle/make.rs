@@ -1,7 +1,7 @@
 //! Random cases, some damaged.
 use crate::changes::{changed, entry, HEAD};
-use crate::net::{self, Net, Window};
-use crate::plain::{all_pairs, our_rows, table, Branch, Carried, Changes, List, Listed, Plain};
+use crate::net::{self, Cells, Net, Window};
+use crate::plain::{all_pairs, our_rows, table, Branch, Carried, Changes, List, Listed, New, Plain};
 use crate::random::Random;
 use std::collections::BTreeSet;
 
@@ -475,6 +475,30 @@ fn changes(r: &mut Random, p: &Plain, made: &[u8], rows: &[Branch], version: u8)
     Changes { set, bound, floor, window, list, rows }
 }
 
+/// A number: mostly from 0 to the last that is good, at either end or anywhere, else above it, and then at either end
+/// or anywhere up to the greatest.
+fn good_or_above(r: &mut Random, last: u32, greatest: u32) -> u32 {
+    let (low, high) = if r.one_in(8) { (last + 1, greatest) } else { (0, last) };
+    match r.below(4) {
+        0 => r.pick(&[low, low + 1]),
+        1 => r.pick(&[high - 1, high]),
+        _ => r.within(low as i64, high as i64) as u32,
+    }
+}
+
+/// A row to be written: each of its numbers good or too great, the kind also at the edges of filler, now and then both
+/// nodes the same; lent mostly 12 bytes.
+fn new_row(r: &mut Random) -> New {
+    let short = |r: &mut Random, last| good_or_above(r, last, u16::MAX as u32) as u16;
+    let (a, other, count) = (short(r, 4_095), short(r, 4_095), short(r, 20_000));
+    let b = if r.one_in(12) { a } else { other };
+    let length = good_or_above(r, 1_000_000, u32::MAX);
+    let kind = if r.one_in(4) { r.pick(&[23, 24, 31, 32]) } else { short(r, 63) };
+    let some = r.below(65_536) as u16;
+    let lent = if r.one_in(6) { r.pick(&[0, 1, 11, 13, 24, some]) } else { 12 };
+    New { row: Cells { ends: [a, b], length, kind, count }, lent }
+}
+
 fn random(r: &mut Random, limit: usize) -> Plain {
     let n = match r.below(8) {
         0 => 1 + r.below(limit.min(4)),
@@ -484,8 +508,8 @@ fn random(r: &mut Random, limit: usize) -> Plain {
     };
     let version = if r.one_in(3) { 2 } else { 1 };
     let rows = branches(r, n, version);
-    // From numbers of their own, so that the tables stay the same whatever marks, windows, lists and change sets are
-    // made and whatever is relaxed.
+    // From numbers of their own, so that the tables stay the same whatever marks, windows, lists, change sets and new
+    // rows are made and whatever is relaxed.
     let own = &mut Random(r.next());
     let run = run_number(own);
     let other = if own.one_in(3) { run } else { run_number(own) };
@@ -570,8 +594,10 @@ fn random(r: &mut Random, limit: usize) -> Plain {
         lower,
         whole,
         changes: nothing,
+        new: [New::default(); 2],
     };
-    Plain { changes: changes(own, &p, &made, &rows, version), ..p }
+    let changes = changes(own, &p, &made, &rows, version);
+    Plain { changes, new: [new_row(own), new_row(own)], ..p }
 }
 
 /// A second fault, so that the order of refusals shows.

@@ -66,6 +66,9 @@ fn score(kind: usize) -> Option<i64> {
     }
 }
 
+/// The kinds that are filler, which the library group no longer places as spare (document 02, Req 13).
+const FILLER: std::ops::RangeInclusive<usize> = 24..=31;
+
 /// What a mark says of its branch (document 02, Req 06).
 #[derive(Clone, Copy, PartialEq)]
 pub enum Mark {
@@ -220,6 +223,71 @@ pub fn accept(s: &[u8]) -> Result<Net, Refused> {
         beside[row.ends[1]].push((r, row.ends[0]));
     }
     Ok(Net { n, bound, rows, beside })
+}
+
+/// What acceptance gives: the node count, the bound, and how many rows have a kind that is filler, whatever their count
+/// (document 02, Req 13). Rows of version 1 have no kind.
+pub fn acceptance(s: &[u8]) -> Result<(usize, u64, usize), Refused> {
+    let net = accept(s)?;
+    let filler = match version(s) {
+        1 => 0,
+        _ => s[12..].chunks(12).filter(|row| FILLER.contains(&u16_at(row, 8))).count(),
+    };
+    Ok((net.n, net.bound, filler))
+}
+
+/// The numbers of a row of version 2, of any size that their places hold.
+#[derive(Clone, Copy, Default)]
+pub struct Cells {
+    pub ends: [u16; 2],
+    pub length: u32,
+    pub kind: u16,
+    pub count: u16,
+}
+
+/// The writer (document 02, Req 13): these numbers as a row's 12 bytes. It knows of no table, so a node is too great
+/// that is so for every table, and no row is named.
+pub fn write_row(row: Cells, lent: &mut [u8]) -> Result<(), Refused> {
+    let [a, b] = row.ends;
+    if a > 4_095 || b > 4_095 {
+        return Err(refused(7, 0));
+    }
+    if a == b {
+        return Err(refused(8, 0));
+    }
+    if row.length > 1_000_000 {
+        return Err(refused(9, 0));
+    }
+    if score(row.kind as usize).is_none() {
+        return Err(refused(22, 0));
+    }
+    if FILLER.contains(&(row.kind as usize)) {
+        return Err(refused(35, 0));
+    }
+    if row.count > 20_000 {
+        return Err(refused(23, 0));
+    }
+    if lent.len() != 12 {
+        return Err(refused(39, 0));
+    }
+    lent[0..2].copy_from_slice(&a.to_le_bytes());
+    lent[2..4].copy_from_slice(&b.to_le_bytes());
+    lent[4..8].copy_from_slice(&row.length.to_le_bytes());
+    lent[8..10].copy_from_slice(&row.kind.to_le_bytes());
+    lent[10..12].copy_from_slice(&row.count.to_le_bytes());
+    Ok(())
+}
+
+/// A table made anew, in as many bytes: its first 12 as they are, then each row that stands in it whole, its numbers
+/// read as those of version 2, by the writer, up to the first that it refuses; then what was made is accepted.
+pub fn write_rows(s: &[u8], made: &mut [u8]) -> Result<(usize, u64, usize), Refused> {
+    let head = s.len().min(12);
+    made[..head].copy_from_slice(&s[..head]);
+    for (old, new) in s[head..].chunks_exact(12).zip(made[head..].chunks_exact_mut(12)) {
+        let [a, b, kind, count] = [0, 2, 8, 10].map(|at| u16_at(old, at) as u16);
+        write_row(Cells { ends: [a, b], length: u32_at(old, 4), kind, count }, new)?;
+    }
+    acceptance(made)
 }
 
 /// What a step of the row reader hands back at a row, of the bytes that it holds: 12 from place 12 + 12 × row on; none

@@ -3,7 +3,7 @@
 use crate::asks::{Ask, Op};
 use crate::cases::Case;
 use crate::changes::{self, HEAD};
-use crate::net::{self, Lengths, Window};
+use crate::net::{self, Cells, Lengths, Window};
 
 /// What a row carries beside its nodes and length: its weight (version 1), or a kind and a count (version 2).
 #[derive(Clone, Copy)]
@@ -45,6 +45,13 @@ impl Changes {
     }
 }
 
+/// A row to be written, and how many bytes are lent for it (Req 13).
+#[derive(Clone, Copy, Default)]
+pub struct New {
+    pub row: Cells,
+    pub lent: u16,
+}
+
 #[derive(Clone)]
 pub struct Plain {
     pub table: Vec<u8>,
@@ -72,8 +79,10 @@ pub struct Plain {
     pub raised: [u32; 2],
     pub lower: i64,
     pub whole: u16,
-    /// What is asked last of all (Req 12).
+    /// What is asked then, with a change set (Req 12).
     pub changes: Changes,
+    /// Last of all these rows are written, and the table row by row.
+    pub new: [New; 2],
 }
 
 /// The version of a table with these rows, which are all alike; 1 where there are none.
@@ -119,7 +128,7 @@ pub fn our_rows(table: &[u8], marks: &[u16], floor: i64, many: usize) -> Vec<Lis
 const ALL: Window = Window { counts: [1, u32::MAX], sums: [i64::MIN, i64::MAX] };
 
 /// With the numbers that the worked net is asked about: in the first window 0-2 and 2-3 have the most branches there.
-/// The change set changes nothing.
+/// The change set changes nothing. One row is written, and one is of a retired kind.
 pub fn plain(table: Vec<u8>, marks: &[u16]) -> Plain {
     let nodes = u16::from_le_bytes([table[5], table[6]]);
     let bound = net::bound_in(&table).unwrap_or(0);
@@ -140,6 +149,7 @@ pub fn plain(table: Vec<u8>, marks: &[u16]) -> Plain {
         lower: i64::MIN,
         whole: all_pairs(nodes as usize),
         changes: Changes::nothing(nodes as usize, bound),
+        new: [23, 24].map(|kind| New { row: Cells { ends: [2, 3], length: 6, kind, count: 7 }, lent: 12 }),
     }
 }
 
@@ -170,11 +180,14 @@ impl Plain {
     }
 
     /// The usual asks: every operation on the table and its marks as they come, then the changes of the marks and what
-    /// is said of them then; then the bound is raised and the floor lowered; at the end every operation is asked with
-    /// the change set. Each change stands between two asks for the heaviest run, so that relaxing.rs can compare them.
+    /// is said of them then; then the bound is raised and the floor lowered; then every operation is asked with the
+    /// change set; at the end rows are written. Each change stands between two asks for the heaviest run, so that
+    /// relaxing.rs can compare them.
     pub fn usual(&self) -> Vec<Ask> {
         let mut asks = self.of_table();
         asks.extend(self.of_changes());
+        asks.extend(self.new.map(|new| Ask { shown: 12, ..of(Op::WriteRow, "write row").of_cells(new.row, new.lent) }));
+        asks.push(of(Op::WriteRows, "write rows"));
         asks
     }
 

@@ -4,7 +4,7 @@
 use crate::asks::{of_mark, of_verdict, Ask, Op, Said, LENT};
 use crate::cases::Case;
 use crate::changes::{entry, HEAD};
-use crate::net::{Mark, Vetted, Window};
+use crate::net::{self, Cells, Mark, Vetted, Window};
 use crate::plain::{plain, table, version, Branch, Carried};
 use std::collections::HashMap;
 use std::str::FromStr;
@@ -279,6 +279,11 @@ fn ask_of(text: &str) -> Read<Ask> {
             let (a, b, lent) = paged(rest)?;
             Ask { a, b, lent, ..of(Op::WindowList) }.of_window(window([few, many], [low, high])?)
         }
+        ["write", "row", a, b, l, k, c, "room", lent] => {
+            let row = Cells { ends: [number(a)?, number(b)?], length: number(l)?, kind: number(k)?, count: number(c)? };
+            of(Op::WriteRow).of_cells(row, number(lent)?)
+        }
+        ["write", "rows"] => of(Op::WriteRows),
         ["heads", "of", k] => Ask { lent: number(k)?, ..of(Op::Heads) },
         ["run", r, "claims", a, b] => Ask { run: number(r)?, a: number(a)?, b: number(b)?, ..of(Op::Claim) },
         ["run", r, "commits"] => Ask { run: number(r)?, ..of(Op::Commit) },
@@ -346,11 +351,46 @@ pub fn refusal(words: &[&str]) -> Read<Option<[u64; 3]>> {
     })
 }
 
-/// The answer as it is written. A refusal leaves the lent memory and the marks as they were.
-fn said(ask: &Ask, text: &str, before: &[u16]) -> Read<Said> {
+/// What acceptance gives: `nodes 5 bound 8`, and where rows are filler `nodes 5 bound 8 filler 2`.
+fn acceptance(words: &[&str]) -> Read<Vec<i128>> {
+    match words {
+        ["nodes", n, "bound", b] => numbers(&[n, b, "0"]),
+        ["nodes", n, "bound", b, "filler", k] => numbers(&[n, b, k]),
+        other => strange("nodes, bound and filler", other),
+    }
+}
+
+/// The bytes of a table, as lent memory holds them when so many rows of it are written anew: each of these is the
+/// table's own, as are the first 12 bytes.
+fn rewritten(table: &[u8], rows: usize) -> Option<Vec<u16>> {
+    let written = (12 + 12 * rows).min(table.len());
+    wide([&table[..written], &vec![LENT; table.len() - written]].concat())
+}
+
+/// What writing a table row by row gives: the writer's refusal, `refused 35 after 2 rows`; or all rows are written, and
+/// acceptance of them follows.
+fn said_of_rows(words: &[&str], table: &[u8]) -> Read<Said> {
+    if let ["refused", n, "after", k, "rows"] = words {
+        return Ok(Said { refusal: [number(n)?, 0, 0], fields: vec![0; 3], memory: rewritten(table, number(k)?) });
+    }
+    let memory = rewritten(table, table.len().saturating_sub(12) / 12);
+    Ok(match refusal(words)? {
+        Some(refusal) => Said { refusal, fields: vec![0; 3], memory },
+        None => Said { refusal: [0; 3], fields: acceptance(words)?, memory },
+    })
+}
+
+/// The answer as it is written, of the table and the marks as they stand. A refusal leaves the lent memory and the
+/// marks as they were.
+fn said(ask: &Ask, text: &str, table: &[u8], before: &[u16]) -> Read<Said> {
     let all = parts(text);
+    if let (Op::WriteRows, [one]) = (ask.op, &all[..]) {
+        return said_of_rows(one, table);
+    }
     let lent = || match ask.op {
-        Op::Listing | Op::ListingExact | Op::WindowList | Op::Heads => Some(vec![LENT as u16; ask.lent as usize]),
+        Op::Listing | Op::ListingExact | Op::WindowList | Op::WriteRow | Op::Heads => {
+            Some(vec![LENT as u16; ask.lent as usize])
+        }
         Op::Claim | Op::Commit | Op::Abort => Some(before.to_vec()),
         _ => None,
     };
@@ -359,10 +399,11 @@ fn said(ask: &Ask, text: &str, before: &[u16]) -> Read<Said> {
     }
     let fine = |fields: Read<Vec<i128>>, memory| Ok(Said { refusal: [0; 3], fields: fields?, memory });
     match (ask.op, &all[..]) {
-        (Op::Open | Op::Examine | Op::Accept, [one]) => match one[..] {
+        (Op::Open | Op::Examine, [one]) => match one[..] {
             ["nodes", n, "bound", b] => fine(numbers(&[n, b]), None),
             _ => strange("nodes and bound", one),
         },
+        (Op::Accept, [one]) => fine(acceptance(one), None),
         (Op::Pair, [one]) => match one[..] {
             ["length", l, "weight", w, "hops", h] => fine(numbers(&[l, w, h]), None),
             _ => strange("length, weight and hops", one),
@@ -394,6 +435,7 @@ fn said(ask: &Ask, text: &str, before: &[u16]) -> Read<Said> {
                 _ => strange("how many are left", left),
             }
         }
+        (Op::WriteRow, [one]) => fine(Ok(vec![]), wide(numbers(one)?)),
         (Op::Heads, [one]) => fine(Ok(vec![]), Some(numbers(one)?)),
         (Op::Claim | Op::Commit | Op::Abort, [count, after]) => match (&count[..], &after[..]) {
             ([k, "branches"], ["marks", after @ ..]) => fine(numbers(&[k]), Some(marks(after)?)),
@@ -441,6 +483,13 @@ impl Worked {
         self.case.asks.iter().zip(&self.answers).rev().find_map(changed).unwrap_or(self.case.marks.clone())
     }
 
+    /// The table after the asks so far, of which some change its bound.
+    fn table(&self) -> Vec<u8> {
+        let mut table = self.case.table.clone();
+        self.case.asks.iter().filter(|q| q.op == Op::Bound).for_each(|q| net::set_bound(&mut table, q.x as u32));
+        table
+    }
+
     fn take(&mut self, at: usize, line: &str, nets: &Nets) -> Read<()> {
         if let Some(rest) = line.strip_prefix("table ") {
             let (table, free) = table_of(rest, nets)?;
@@ -460,7 +509,7 @@ impl Worked {
         } else {
             let (asked, answer) = line.split_once(" = ").ok_or("an ask has its answer after ' = '")?;
             let ask = ask(asked)?;
-            let said = said(&ask, answer, &self.marks())?;
+            let said = said(&ask, answer, &self.table(), &self.marks())?;
             self.case.asks.push(ask);
             self.answers.push(Some((at, said)));
         }

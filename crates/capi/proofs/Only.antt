@@ -4,7 +4,7 @@ use mathlib.Core.Path.{sym, ap, _∙_}
 use mathlib.Core.List.{List}
 use lib.IntN.{ℤ}
 use Rattle.table.specs.Refuse.{Only}
-use Rattle.tree.proofs.Begins.{accept-only}
+use Rattle.accept.proofs.Only.{accept-only}
 use Rattle.spines.proofs.HeadsOnly.{heads-only}
 use Rattle.changes.proofs.Only.{claim-only, commit-only, abort-only}
 use Rattle.convert.proofs.Only.{convert-only}
@@ -14,9 +14,10 @@ use Rattle.listing.proofs.Only.{listing-only, listing-exact-only}
 use Rattle.window.specs.Window.{Window}
 use Rattle.window.proofs.Only.{window-only, window-list-only}
 use Rattle.vet.proofs.Only.{vet-only}
+use Rattle.writer.proofs.Only.{write-row-only}
 use Rattle.dimacs.proofs.Only.{read-only, write-only}
 use Rattle.eight.specs.Shown.{
-  acceptanceInC,
+  acceptInC,
   pairInC,
   heaviestInC,
   windowInC,
@@ -27,6 +28,7 @@ use Rattle.eight.specs.Shown.{
   conversionInC,
   readInC,
   writeInC,
+  rowInC,
 }
 use Rattle.capi.specs.Promises.{
   ShowsInC,
@@ -46,13 +48,14 @@ use Rattle.capi.specs.Promises.{
   ConvertCall,
   ReadCall,
   WriteCall,
+  WriteRowCall,
 }
 
 pub shows-only : {O C : Type 0} {Promise : O → Type 0} (inC : O → C) → Only Promise → Only (ShowsInC Promise inC)
 shows-only inC o x y p q = p .shown ∙ ap inC (o (p .outcome) (q .outcome) (p .promise) (q .promise)) ∙ sym (q .shown)
 
 pub hb-accept-only : (s : List ℕ) → Only (AcceptCall s)
-hb-accept-only s = shows-only acceptanceInC (accept-only s)
+hb-accept-only s = shows-only acceptInC (accept-only s)
 
 pub hb-pair-only : (s marks : List ℕ) (a b : ℕ) → Only (PairCall s marks a b)
 hb-pair-only s marks a b = shows-only pairInC (pair-only s marks a b)
@@ -102,3 +105,6 @@ hb-dimacs-read-only lengths weights bound old = shows-only readInC (read-only le
 
 pub hb-dimacs-write-only : (s lengths weights : List ℕ) → Only (WriteCall s lengths weights)
 hb-dimacs-write-only s lengths weights = shows-only writeInC (write-only s lengths weights)
+
+pub hb-write-row-only : (a b wire kind count : ℕ) (before : List ℕ) → Only (WriteRowCall a b wire kind count before)
+hb-write-row-only a b wire kind count before = shows-only rowInC (write-row-only a b wire kind count before)

@@ -6,7 +6,7 @@ use Rattle.table.specs.Refuse.{Only}
 use Rattle.window.specs.Window.{Window}
 use Rattle.frozen.proofs.Only as frozen
 use Rattle.eight.specs.Shown.{
-  acceptanceInC,
+  acceptInC,
   pairInC,
   heaviestInC,
   headsInC,
@@ -37,7 +37,7 @@ use Rattle.capi.specs.PromisesWith.{
 use Rattle.capi.proofs.Only.{shows-only}
 
 pub hb-accept-with-only : (s c : List ℕ) → Only (AcceptWithCall s c)
-hb-accept-with-only s c = shows-only acceptanceInC (frozen.accept-with-only s c)
+hb-accept-with-only s c = shows-only acceptInC (frozen.accept-with-only s c)
 
 pub hb-pair-with-only : (s c : List ℕ) (marks : List ℕ) (a : ℕ) (b : ℕ) → Only (PairWithCall s c marks a b)
 hb-pair-with-only s c marks a b = shows-only pairInC (frozen.pair-with-only s c marks a b)

@@ -8,8 +8,10 @@ use lib.IntN.{ℤ}
 use lib.ListN.{length}
 use Rattle.table.specs.Header.{nodesOf}
 use Rattle.table.specs.Refuse.{Unless}
-use Rattle.tree.specs.Accept.{Begins, Accepts, acceptanceRefusal}
-use Rattle.tree.specs.declared.Acceptance.{Acceptance}
+use Rattle.tree.specs.Accept.{Begins}
+use Rattle.accept.specs.Accept.{GivesNet, AcceptOf, acceptRefusal}
+use Rattle.accept.specs.declared.AcceptAnswer.{AcceptAnswer}
+use Rattle.accept.specs.declared.AcceptAnswer.the-variants as accept
 use Rattle.table.proofs.Refusals.{by-unless, by-rows}
 use Rattle.tree.proofs.Begins.{Told, begins-map, by-beginning}
 use Rattle.spines.specs.Heads.{Heads, Headings, headsRefusal}
@@ -42,13 +44,15 @@ use Rattle.vetting.specs.Vets.{Vets}
 use Rattle.vetting.specs.declared.Vetted.{Vetted}
 use Rattle.vetting.specs.declared.Vetted.the-variants as vetted
 use Rattle.vet.specs.Vet.{VetOf, vetRefusal}
+use Rattle.writer.specs.WriteRow.{WritesRow}
+use Rattle.writer.specs.declared.RowAnswer.{RowAnswer}
 use Rattle.dimacs.specs.Read.{ReadOf}
 use Rattle.dimacs.specs.declared.ReadAnswer.{ReadAnswer}
 use Rattle.dimacs.specs.Write.{Wrote, WriteOf}
 use Rattle.dimacs.proofs.Cases.{by-reading, by-writing}
 use Rattle.eight.specs.work.Room.{
   Room,
-  AcceptanceRoom,
+  AcceptRoom,
   PairRoom,
   HeaviestRoom,
   WindowRoom,
@@ -59,6 +63,7 @@ use Rattle.eight.specs.work.Room.{
   ConversionRoom,
   ReadRoom,
   WriteRoom,
+  RowRoom,
 }
 
 pub nowhere : Room 0 0
@@ -84,8 +89,12 @@ few-nodes {A} C refuse s {rest} h f p =
     known : A → Type 0
     known o = (nodesOf s ≤ 4096) × rest o
 
-pub accept-low : (s : List ℕ) (x : Acceptance) → Accepts s x → AcceptanceRoom x
-accept-low s x p = by-beginning AcceptanceRoom acceptanceRefusal s told (λ o e. rw e tt) p
+pub accept-low : (s : List ℕ) (x : AcceptAnswer) → AcceptOf s x → AcceptRoom x
+accept-low s x p = by-beginning AcceptRoom acceptRefusal s told given p
+  where
+    given : (x : AcceptAnswer) → GivesNet s x → AcceptRoom x
+    given (accept.Accepted n b k) q = tt
+    given (accept.Refused why) q = absurd q
 
 pub pair-low : (s marks : List ℕ) (a b : ℕ) (x : PairAnswer) → PairOf s marks a b x → PairRoom x
 pair-low s marks a b x p =
@@ -199,3 +208,11 @@ pub write-low : (s lengths weights : List ℕ) (x : Wrote) → length lengths < 
 write-low s lengths weights x h g p =
     by-writing (λ o. WriteRoom (o .0)) lengths weights told
     (λ l w long heavy. (omega (arith, long, h), omega (arith, heavy, g))) p
+
+-- a row that is not written is no row of a table: row 0 is named
+pub row-low : (a b wire kind count : ℕ) (before : List ℕ) (x : RowAnswer × List ℕ)
+    → WritesRow a b wire kind count before x → RowRoom (x .0)
+row-low a b wire kind count before =
+    let C : RowAnswer × List ℕ → Type 0 = λ o. RowRoom (o .0) in
+    let zero : 0 < 4096 = omega arith in
+    own C zero (own C zero (own C zero (own C zero (own C zero (own C zero (own C zero (λ x e. rw e tt)))))))

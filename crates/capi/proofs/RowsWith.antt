@@ -4,8 +4,8 @@ use Prim.Native.Nat.{ℕ, _<_}
 use mathlib.Core.List.{List}
 use lib.IntN.{ℤ}
 use lib.ListN.{length}
-use Rattle.tree.specs.Accept.{acceptanceRefusal}
-use Rattle.tree.specs.declared.Acceptance.{Acceptance}
+use Rattle.accept.specs.Accept.{acceptRefusal}
+use Rattle.accept.specs.declared.AcceptAnswer.{AcceptAnswer}
 use Rattle.table.proofs.Refusals.{by-unless}
 use Rattle.spines.specs.Heads.{headsRefusal}
 use Rattle.spines.specs.declared.HeadsAnswer.{HeadsAnswer}
@@ -26,7 +26,7 @@ use Rattle.vet.specs.Vet.{vetRefusal}
 use Rattle.dimacs.specs.Write.{Wrote, writeRefusal}
 use Rattle.changeset.proofs.Withs.{by-with}
 use Rattle.frozen.specs.Calls.{
-  AcceptsWith,
+  AcceptWith,
   PairWith,
   HeaviestWith,
   HeaviestExactWith,
@@ -43,7 +43,7 @@ use Rattle.frozen.specs.Calls.{
   WriteWith,
 }
 use Rattle.eight.specs.work.Room.{
-  AcceptanceRoom,
+  AcceptRoom,
   PairRoom,
   HeaviestRoom,
   WindowRoom,
@@ -70,8 +70,8 @@ use Rattle.capi.proofs.Rows.{
   write-low,
 }
 
-pub accept-with-low : (s c : List ℕ) (x : Acceptance) → AcceptsWith s c x → AcceptanceRoom x
-accept-with-low s c x p = by-with acceptanceRefusal s c AcceptanceRoom (λ _. nowhere) (λ t x q. accept-low t x q) p
+pub accept-with-low : (s c : List ℕ) (x : AcceptAnswer) → AcceptWith s c x → AcceptRoom x
+accept-with-low s c x p = by-with acceptRefusal s c AcceptRoom (λ _. nowhere) (λ t x q. accept-low t x q) p
 
 pub pair-with-low : (s c : List ℕ) (marks : List ℕ) (a : ℕ) (b : ℕ) (x : PairAnswer) → PairWith s c marks a b x
     → PairRoom x

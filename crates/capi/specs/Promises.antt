@@ -3,7 +3,7 @@ use Prim.Native.Nat.{ℕ}
 use mathlib.Core.Path.{_≡_}
 use mathlib.Core.List.{List}
 use lib.IntN.{ℤ}
-use Rattle.tree.specs.Accept.{Accepts}
+use Rattle.accept.specs.Accept.{AcceptOf}
 use Rattle.spines.specs.Heads.{Headings}
 use Rattle.changes.specs.Change.{Commits, Aborts}
 use Rattle.changes.specs.Claim.{Claims}
@@ -14,11 +14,12 @@ use Rattle.listing.specs.Listing.{ListingOf, ListingExactOf}
 use Rattle.window.specs.Window.{Window, WindowOf}
 use Rattle.window.specs.List.{WindowListOf}
 use Rattle.vet.specs.Vet.{VetOf}
+use Rattle.writer.specs.WriteRow.{WritesRow}
 use Rattle.dimacs.specs.Read.{ReadOf}
 use Rattle.dimacs.specs.Write.{WriteOf}
 use Rattle.eight.specs.Call.{Call}
 use Rattle.eight.specs.Shown.{
-  acceptanceInC,
+  acceptInC,
   pairInC,
   heaviestInC,
   windowInC,
@@ -29,6 +30,7 @@ use Rattle.eight.specs.Shown.{
   conversionInC,
   readInC,
   writeInC,
+  rowInC,
 }
 
 -- a call leaves what an outcome that the operation's own promise allows is in C: a `Call`, and where two memories are
@@ -39,7 +41,7 @@ pub record ShowsInC {O C : Type 0} (Promise : O → Type 0) (inC : O → C) (c :
   pub shown : c ≡ inC outcome
 
 abbrev pub AcceptCall : List ℕ → Call → Type 0
-AcceptCall s = ShowsInC (Accepts s) acceptanceInC
+AcceptCall s = ShowsInC (AcceptOf s) acceptInC
 
 abbrev pub PairCall : List ℕ → List ℕ → ℕ → ℕ → Call → Type 0
 PairCall s marks a b = ShowsInC (PairOf s marks a b) pairInC
@@ -85,3 +87,6 @@ ReadCall lengths weights bound old = ShowsInC (ReadOf lengths weights bound old)
 
 abbrev pub WriteCall : List ℕ → List ℕ → List ℕ → Call × List ℕ → Type 0
 WriteCall s lengths weights = ShowsInC (WriteOf s lengths weights) writeInC
+
+abbrev pub WriteRowCall : ℕ → ℕ → ℕ → ℕ → ℕ → List ℕ → Call → Type 0
+WriteRowCall a b wire kind count before = ShowsInC (WritesRow a b wire kind count before) rowInC

@@ -4,7 +4,7 @@ use mathlib.Core.List.{List}
 use lib.IntN.{ℤ}
 use Rattle.window.specs.Window.{Window}
 use Rattle.frozen.specs.Calls.{
-  AcceptsWith,
+  AcceptWith,
   PairWith,
   HeaviestWith,
   HeaviestExactWith,
@@ -22,7 +22,7 @@ use Rattle.frozen.specs.Calls.{
 }
 use Rattle.eight.specs.Call.{Call}
 use Rattle.eight.specs.Shown.{
-  acceptanceInC,
+  acceptInC,
   pairInC,
   heaviestInC,
   headsInC,
@@ -36,7 +36,7 @@ use Rattle.eight.specs.Shown.{
 use Rattle.capi.specs.Promises.{ShowsInC}
 
 abbrev pub AcceptWithCall : List ℕ → List ℕ → Call → Type 0
-AcceptWithCall s c = ShowsInC (AcceptsWith s c) acceptanceInC
+AcceptWithCall s c = ShowsInC (AcceptWith s c) acceptInC
 
 abbrev pub PairWithCall : List ℕ → List ℕ → List ℕ → ℕ → ℕ → Call → Type 0
 PairWithCall s c marks a b = ShowsInC (PairWith s c marks a b) pairInC

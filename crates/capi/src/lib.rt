@@ -24,8 +24,9 @@ ghost use Rattle.capi.specs.Promises.{
   ConvertCall,
   ReadCall,
   WriteCall,
+  WriteRowCall,
 };
-use eight::show_acceptance;
+use eight::show_accept;
 use eight::show_change;
 use eight::show_conversion;
 use eight::show_heads;
@@ -33,6 +34,7 @@ use eight::show_heaviest;
 use eight::show_page;
 use eight::show_pair;
 use eight::show_read;
+use eight::show_row;
 use eight::show_vet;
 use eight::show_window;
 use eight::show_write;
@@ -52,13 +54,13 @@ pub use sets::hb_vet_with;
 pub use sets::hb_window_list_with;
 pub use sets::hb_window_with;
 
-// Fields: nodes, bound.
+// Fields: nodes, bound, filler.
 #[no_mangle]
 pub extern "C" fn hb_accept(s: &[u8], answer: &mut [i64; 8]) -> u8
     ensures { λ r. ⌜ AcceptCall (now (s .entry)) (call r (now (answer .exit)) []) ⌝ }
 {
-    let o = tree::accept(s);
-    show_acceptance(o, answer)
+    let o = accept::accept(s);
+    show_accept(o, answer)
 }
 
 // Fields: length, weight, hops.
@@ -264,4 +266,22 @@ pub extern "C" fn hb_dimacs_write(
 {
     let o = dimacs::write(s, lengths, weights);
     show_write(o, answer)
+}
+
+// No fields; one row of version 2 into `row`.
+#[no_mangle]
+pub extern "C" fn hb_write_row(
+    a: u16,
+    b: u16,
+    wire: u32,
+    kind: u16,
+    count: u16,
+    row: &mut [u8],
+    answer: &mut [i64; 8],
+) -> u8
+    ensures { λ r. ⌜ WriteRowCall a b wire kind count (now (row .entry))
+        (call r (now (answer .exit)) (now (row .exit))) ⌝ }
+{
+    let o = writer::write_row(a, b, wire, kind, count, row);
+    show_row(o, answer)
 }

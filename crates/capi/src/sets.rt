@@ -20,7 +20,7 @@ ghost use Rattle.capi.specs.PromisesWith.{
   ConvertWithCall,
   WriteWithCall,
 };
-use eight::show_acceptance;
+use eight::show_accept;
 use eight::show_change;
 use eight::show_conversion;
 use eight::show_heads;
@@ -37,7 +37,7 @@ pub extern "C" fn hb_accept_with(table: &[u8], changes: &[u8], answer: &mut [i64
     ensures { λ r. ⌜ AcceptWithCall (now (table .entry)) (now (changes .entry)) (call r (now (answer .exit)) []) ⌝ }
 {
     let o = frozen::accept_with(table, changes);
-    show_acceptance(o, answer)
+    show_accept(o, answer)
 }
 
 // Fields: length, weight, hops.

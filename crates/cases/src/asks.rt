@@ -1,10 +1,14 @@
 // The operations: what an ask calls, and its answer as fields. A new operation is a code and an arm here, and where its
 // answer is of a new sort a function that makes it fields. By a code that is greater by 128 it is asked with the case's
 // change set.
+ghost use mathlib.Core.Path.{_≡_};
+ghost use lib.ListN.{length};
+use crate::anew;
 use crate::read;
 use crate::read::Ask;
 use crate::say;
 use crate::say::Answer;
+use accept::AcceptAnswer;
 use changes::Change;
 use convert::Conversion;
 use heaviest::HeaviestAnswer;
@@ -14,20 +18,25 @@ use pair::PairAnswer;
 use spines::HeadsAnswer;
 use table::Opening;
 use table::Row;
-use tree::Acceptance;
 use vetting::Vetted;
 use window::WindowAnswer;
+use writer::RowAnswer;
+
+// A refusal that tells of no ring.
+fn ringless(why: table::Refusal, many: usize) -> Answer {
+    Answer {
+        number: why.number as u64,
+        row: why.row as u64,
+        ring: 0,
+        fields: [0, 0, 0, 0],
+        many: many,
+        weight: 4,
+    }
+}
 
 fn opened(o: Opening) -> Answer {
     match o {
-        Opening::Refused(why) => Answer {
-            number: why.number as u64,
-            row: why.row as u64,
-            ring: 0,
-            fields: [0, 0, 0, 0],
-            many: 2,
-            weight: 4,
-        },
+        Opening::Refused(why) => ringless(why, 2),
         Opening::Opened { nodes, bound } => say::fine(2, nodes as u64, bound as u64),
     }
 }
@@ -53,10 +62,21 @@ fn decoded(r: Row) -> Answer {
     }
 }
 
-fn accepted(o: Acceptance) -> Answer {
+fn accepted(o: AcceptAnswer) -> Answer {
     match o {
-        Acceptance::Refused(why) => say::refused(why, 2),
-        Acceptance::Accepted { nodes, bound } => say::fine(2, nodes as u64, bound as u64),
+        AcceptAnswer::Refused(why) => say::refused(why, 3),
+        AcceptAnswer::Accepted {
+            nodes,
+            bound,
+            filler,
+        } => Answer {
+            number: 0,
+            row: 0,
+            ring: 0,
+            fields: [nodes as u64, bound as u64, filler as u64, 0],
+            many: 3,
+            weight: 4,
+        },
     }
 }
 
@@ -169,6 +189,13 @@ fn vetted(o: Vetted) -> Answer {
     }
 }
 
+fn written(o: RowAnswer) -> Answer {
+    match o {
+        RowAnswer::Refused(why) => ringless(why, 0),
+        RowAnswer::Written => say::fine(0, 0, 0),
+    }
+}
+
 fn headed(o: HeadsAnswer) -> Answer {
     match o {
         HeadsAnswer::Refused(why) => say::refused(why, 0),
@@ -222,7 +249,7 @@ fn in_window(s: &[u8], set: &[u8], marks: &[u16], q: Ask) -> WindowAnswer {
 fn of_net(s: &[u8], set: &[u8], marks: &[u16], q: Ask) -> Answer {
     let code = q.code;
     match code {
-        17 => accepted(tree::accept(s)),
+        17 => accepted(accept::accept(s)),
         18 => found(pair::pair(s, marks, q.a, q.b)),
         19 => between(heaviest::heaviest(s, marks)),
         20 => between(heaviest::heaviest_exact(s, marks)),
@@ -286,15 +313,61 @@ fn page(s: &[u8], set: &[u8], marks: &[u16], q: Ask, rows: &mut [u8]) -> Listed 
     }
 }
 
-// A page of as many bytes as are lent, each of which held 165.
-fn of_rows(s: &[u8], set: &[u8], marks: &[u16], q: Ask) {
+// A row's kind stands where a run does, its length and its count, of 16 bits, where a window's count limits do.
+fn row_of(q: Ask, row: &mut [u8]) -> RowAnswer {
+    let count = (q.count_high % 65536) as u16;
+    writer::write_row(q.a, q.b, q.count_low, q.run, count, row)
+}
+
+// What is put into lent bytes: one row, or a page of them.
+fn put(s: &[u8], set: &[u8], marks: &[u16], q: Ask, rows: &mut [u8]) -> Answer {
+    if q.code == 36 {
+        return written(row_of(q, rows));
+    }
+    listed(page(s, set, marks, q, rows))
+}
+
+// As many bytes as are lent, each of which held 165.
+fn of_lent(s: &[u8], set: &[u8], marks: &[u16], q: Ask) {
     let size = q.lent;
     let mut space = [165u8; 65536];
     let whole = &mut space[..];
     if size <= whole.len() {
         let rows = &mut whole[0..size];
-        let a = listed(page(s, set, marks, q, rows));
+        let a = put(s, set, marks, q, rows);
         say::bytes(a, rows, q.shown);
+    }
+}
+
+// What the writer refuses; or all rows are written, and what was made is accepted or not.
+fn remade(s: &[u8], made: &mut [u8]) -> Answer
+    requires { ⌜ length (now made) ≡ length (now s) ⌝ }
+{
+    let o = anew::make(s, made);
+    match o {
+        RowAnswer::Refused(why) => ringless(why, 3),
+        RowAnswer::Written => accepted(accept::accept(made)),
+    }
+}
+
+// As many bytes as the table has, each of which held 165.
+fn of_table_anew(s: &[u8], q: Ask) {
+    let size = s.len();
+    let mut space = [165u8; 65536];
+    let whole = &mut space[..];
+    if size <= whole.len() {
+        let made = &mut whole[0..size];
+        let a = remade(s, made);
+        say::bytes(a, made, q.shown);
+    }
+}
+
+// Those that put rows into bytes.
+fn of_rows(s: &[u8], set: &[u8], marks: &[u16], q: Ask) {
+    if q.code == 37 {
+        of_table_anew(s, q);
+    } else {
+        of_lent(s, set, marks, q);
     }
 }
 

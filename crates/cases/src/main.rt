@@ -1,5 +1,6 @@
 // Answers the cases on standard input, a line for each ask; oracle/README.md has the form of both. What it must write
 // is what oracle/ says: of a hand-worked case the answers in oracle/worked.txt, of a random one what oracle/ computes.
+mod anew;
 mod asks;
 mod read;
 mod say;

@@ -6,7 +6,7 @@ use libc::STDOUT_FILENO;
 
 // An ask: its operation, how many bytes its text has, how much memory is lent (of vet, how many bytes the list has) and
 // how much of that is written out after the call, and the operation's numbers: those of a window stand at the end, but
-// for its lower sum, which is x.
+// for its lower sum, which is x. Of a row to be written the kind is run, the length count_low, the count count_high.
 pub(crate) struct Ask {
     pub(crate) code: u16,
     pub(crate) text: u16,

@@ -3,8 +3,8 @@ use Prim.Native.Nat.{ℕ}
 use mathlib.Core.List.{List, []}
 use lib.IntN.{pos}
 use Rattle.tree.specs.declared.Refusal.{Refusal}
-use Rattle.tree.specs.declared.Acceptance.{Acceptance}
-use Rattle.tree.specs.declared.Acceptance.the-variants as acceptance
+use Rattle.accept.specs.declared.AcceptAnswer.{AcceptAnswer}
+use Rattle.accept.specs.declared.AcceptAnswer.the-variants as accept
 use Rattle.spines.specs.declared.HeadsAnswer.{HeadsAnswer}
 use Rattle.spines.specs.declared.HeadsAnswer.the-variants as heads
 use Rattle.changes.specs.declared.Change.{Change}
@@ -21,6 +21,8 @@ use Rattle.paging.specs.declared.Listed.{Listed}
 use Rattle.paging.specs.declared.Listed.the-variants as listed
 use Rattle.vetting.specs.declared.Vetted.{Vetted}
 use Rattle.vetting.specs.declared.Vetted.the-variants as vetted
+use Rattle.writer.specs.declared.RowAnswer.{RowAnswer}
+use Rattle.writer.specs.declared.RowAnswer.the-variants as row
 use Rattle.dimacs.specs.Write.{Wrote}
 use Rattle.dimacs.specs.declared.ReadAnswer.{ReadAnswer}
 use Rattle.dimacs.specs.declared.ReadAnswer.the-variants as read
@@ -31,10 +33,10 @@ use Rattle.eight.specs.Call.{Call, inC}
 abbrev pub refusalInC : Refusal → List ℕ → Call
 refusalInC why = inC (why .number) (why .row) (why .ring) (pos 0) (pos 0) (pos 0) (pos 0)
 
--- nodes, bound
-abbrev pub acceptanceInC : Acceptance → Call
-acceptanceInC (acceptance.Accepted nodes bound) = inC 0 0 0 (pos nodes) (pos bound) (pos 0) (pos 0) []
-acceptanceInC (acceptance.Refused why) = refusalInC why []
+-- nodes, bound, filler
+abbrev pub acceptInC : AcceptAnswer → Call
+acceptInC (accept.Accepted nodes bound filler) = inC 0 0 0 (pos nodes) (pos bound) (pos filler) (pos 0) []
+acceptInC (accept.Refused why) = refusalInC why []
 
 -- length, weight, hops
 abbrev pub pairInC : PairAnswer → Call
@@ -87,3 +89,8 @@ readInC (read.Refused why, table) = refusalInC why table
 abbrev pub writeInC : Wrote → Call × List ℕ
 writeInC (write.Texts a b, lengths, weights) = (inC 0 0 0 (pos a) (pos b) (pos 0) (pos 0) lengths, weights)
 writeInC (write.Refused why, lengths, weights) = (refusalInC why lengths, weights)
+
+-- no fields; the row. It has no ring to tell of
+abbrev pub rowInC : RowAnswer × List ℕ → Call
+rowInC (row.Written, bytes) = inC 0 0 0 (pos 0) (pos 0) (pos 0) (pos 0) bytes
+rowInC (row.Refused why, bytes) = inC (why .number) (why .row) 0 (pos 0) (pos 0) (pos 0) (pos 0) bytes

@@ -7,7 +7,7 @@ ghost use mathlib.Core.List.{List, []};
 ghost use Prim.Native.Nat.{ℕ};
 ghost use Rattle.eight.specs.Call.{call};
 ghost use Rattle.eight.specs.Shown.{
-  acceptanceInC,
+  acceptInC,
   pairInC,
   heaviestInC,
   windowInC,
@@ -18,9 +18,10 @@ ghost use Rattle.eight.specs.Shown.{
   conversionInC,
   readInC,
   writeInC,
+  rowInC,
 };
 ghost use Rattle.eight.specs.work.Room.{
-  AcceptanceRoom,
+  AcceptRoom,
   PairRoom,
   HeaviestRoom,
   WindowRoom,
@@ -31,9 +32,11 @@ ghost use Rattle.eight.specs.work.Room.{
   ConversionRoom,
   ReadRoom,
   WriteRoom,
+  RowRoom,
 };
 use crate::answer::fill;
 use crate::answer::refuse;
+use accept::AcceptAnswer;
 use changes::Change;
 use convert::Conversion;
 use dimacs::ReadAnswer;
@@ -42,19 +45,32 @@ use heaviest::HeaviestAnswer;
 use paging::Listed;
 use pair::PairAnswer;
 use spines::HeadsAnswer;
-use tree::Acceptance;
 use vetting::Vetted;
 use window::WindowAnswer;
+use writer::RowAnswer;
 
-// Acceptance: the refusal, or nodes, bound.
-pub fn show_acceptance(o: Acceptance, answer: &mut [i64; 8]) -> u8
-    requires { ⌜ AcceptanceRoom o ⌝ }
-    ensures { λ r. ⌜ call r (now (answer .exit)) [] ≡ acceptanceInC o ⌝ }
+// Acceptance: the refusal, or nodes, bound, filler.
+pub fn show_accept(o: AcceptAnswer, answer: &mut [i64; 8]) -> u8
+    requires { ⌜ AcceptRoom o ⌝ }
+    ensures { λ r. ⌜ call r (now (answer .exit)) [] ≡ acceptInC o ⌝ }
 {
     match o {
-        Acceptance::Refused(why) => refuse(why, answer),
-        Acceptance::Accepted { nodes, bound } => {
-            fill(answer, 0, 0, 0, nodes as i64, bound as i64, 0, 0)
+        AcceptAnswer::Refused(why) => refuse(why, answer),
+        AcceptAnswer::Accepted {
+            nodes,
+            bound,
+            filler,
+        } => {
+            fill(
+                answer,
+                0,
+                0,
+                0,
+                nodes as i64,
+                bound as i64,
+                filler as i64,
+                0,
+            )
         }
     }
 }
@@ -209,5 +225,16 @@ pub fn show_write(o: WriteAnswer, answer: &mut [i64; 8]) -> u8
         WriteAnswer::Texts { lengths, weights } => {
             fill(answer, 0, 0, 0, lengths as i64, weights as i64, 0, 0)
         }
+    }
+}
+
+// A row written: the refusal, which has no ring, or no fields.
+pub fn show_row(o: RowAnswer, answer: &mut [i64; 8]) -> u8
+    requires { ⌜ RowRoom o ⌝ }
+    ensures { λ r. ⌜ ((row : List ℕ) → call r (now (answer .exit)) row ≡ rowInC (o, row)) ⌝ }
+{
+    match o {
+        RowAnswer::Refused(why) => fill(answer, why.number, why.row, 0, 0, 0, 0, 0),
+        RowAnswer::Written => fill(answer, 0, 0, 0, 0, 0, 0, 0),
     }
 }

@@ -2,3 +2,4 @@
 pub mod None
 pub mod Only
 pub mod Theorems
+pub mod Filler

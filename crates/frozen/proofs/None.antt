@@ -10,8 +10,8 @@ use Rattle.table.specs.Header.{Header}
 use Rattle.table.specs.Refuse.{passed}
 use Rattle.table.proofs.Refusals.{settled, unless-map}
 use Rattle.table.proofs.Accepted.{header-map}
-use Rattle.tree.specs.Accept.{acceptanceRefusal, Accepts}
-use Rattle.tree.specs.declared.Acceptance.{Acceptance}
+use Rattle.accept.specs.Accept.{acceptRefusal, AcceptOf}
+use Rattle.accept.specs.declared.AcceptAnswer.{AcceptAnswer}
 use Rattle.spines.specs.Heads.{headsRefusal, Headings}
 use Rattle.spines.specs.declared.HeadsAnswer.{HeadsAnswer}
 use Rattle.changes.specs.Change.{changeRefusal, Commits, Aborts}
@@ -36,7 +36,7 @@ use Rattle.changeset.specs.Entries.{Formed}
 use Rattle.changeset.specs.With.{With}
 use Rattle.changeset.proofs.Withs.{with-none, none-with, header-once, header-twice}
 use Rattle.frozen.specs.Calls.{
-  AcceptsWith,
+  AcceptWith,
   PairWith,
   HeaviestWith,
   HeaviestExactWith,
@@ -63,8 +63,8 @@ module _ (s c : List ℕ) (f : Formed c) (six : length c ≡ 6) where
     λ p. none-with refuse s c f six (header-twice (λ k r. refuse k r 0) s p),
   )
 
-  pub accept-none : (x : Acceptance) → (AcceptsWith s c x) ↔ (Accepts s x)
-  accept-none x = none acceptanceRefusal _ x
+  pub accept-none : (x : AcceptAnswer) → (AcceptWith s c x) ↔ (AcceptOf s x)
+  accept-none x = none acceptRefusal _ x
 
   pub heads-none : (before : List ℕ) (x : HeadsAnswer × List ℕ) → (HeadsWith s c before x) ↔ (Headings s before x)
   heads-none before x = none (headsRefusal before) _ x

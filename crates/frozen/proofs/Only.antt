@@ -4,8 +4,8 @@ use mathlib.Core.List.{List}
 use lib.IntN.{ℤ}
 use Rattle.table.specs.Refuse.{Only}
 use Rattle.table.proofs.Refusals.{unless-only}
-use Rattle.tree.specs.Accept.{acceptanceRefusal}
-use Rattle.tree.proofs.Begins.{accept-only}
+use Rattle.accept.specs.Accept.{acceptRefusal}
+use Rattle.accept.proofs.Only.{accept-only}
 use Rattle.spines.specs.Heads.{headsRefusal}
 use Rattle.spines.proofs.HeadsOnly.{heads-only}
 use Rattle.changes.specs.Change.{changeRefusal}
@@ -26,7 +26,7 @@ use Rattle.dimacs.specs.Write.{writeRefusal}
 use Rattle.dimacs.proofs.Only.{write-only}
 use Rattle.changeset.proofs.Withs.{with-only}
 use Rattle.frozen.specs.Calls.{
-  AcceptsWith,
+  AcceptWith,
   PairWith,
   HeaviestWith,
   HeaviestExactWith,
@@ -44,8 +44,8 @@ use Rattle.frozen.specs.Calls.{
 }
 
 module _ (s c : List ℕ) where
-  pub accept-with-only : Only (AcceptsWith s c)
-  accept-with-only = with-only acceptanceRefusal s c accept-only
+  pub accept-with-only : Only (AcceptWith s c)
+  accept-with-only = with-only acceptRefusal s c accept-only
 
   pub heads-with-only : (before : List ℕ) → Only (HeadsWith s c before)
   heads-with-only before = with-only (headsRefusal before) s c (λ t. heads-only t before)

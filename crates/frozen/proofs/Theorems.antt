@@ -14,9 +14,10 @@ use Rattle.table.specs.Header.{nodesOf, boundOf}
 use Rattle.table.proofs.Accepted.{Headed, GoodTable}
 use Rattle.net.specs.Net.{firstEnd, secondEnd}
 use Rattle.net.specs.Graph.{Ring}
-use Rattle.tree.specs.Accept.{acceptanceRefusal, Accepts}
+use Rattle.tree.specs.Accept.{Accepts}
 use Rattle.tree.specs.declared.Acceptance.the-variants.{Accepted}
-use Rattle.tree.proofs.Theorems.{ring-exactly}
+use Rattle.accept.specs.Accept.{acceptRefusal}
+use Rattle.accept.proofs.Theorems.{ring-exactly}
 use Rattle.marks.specs.Mark.{free, spend, HeldBy, RunNumber}
 use Rattle.changes.specs.Change.{changeRefusal, Changes}
 use Rattle.changes.specs.Claim.{Taken}
@@ -38,7 +39,7 @@ use Rattle.changeset.specs.Entries.{Formed, RowsRise}
 use Rattle.changeset.specs.Changed.{WrittenIn}
 use Rattle.changeset.proofs.Withs.{with-there, with-back}
 use Rattle.frozen.specs.Calls.{
-  AcceptsWith,
+  AcceptWith,
   HeaviestWith,
   HeaviestExactWith,
   ClaimsWith,
@@ -52,12 +53,12 @@ use Rattle.frozen.specs.Calls.{
 module _ (s c t : List ℕ) (h : Headed s) (f : Formed c) (g : RowsRise (nodesOf s) c) (d : WrittenIn s c t) where
   -- RINGED EXACTLY, of a changed table with good rows
   pub ring-exactly-with : GoodTable t
-      → ((r : ℕ) × (k : ℕ) × AcceptsWith s c (acceptanceRefusal 11 r k))
+      → ((r : ℕ) × (k : ℕ) × AcceptWith s c (acceptRefusal 11 r k))
       ↔ Ring (firstEnd t) (secondEnd t) (nodesOf t - 1)
   ring-exactly-with good =
       let e = ring-exactly t good in (
-        λ p. e .0 (p .0, p .1, with-back acceptanceRefusal s c h f g t d (p .2)),
-        λ r. let p = e .1 r in (p .0, p .1, with-there acceptanceRefusal s c h f g t d (p .2)),
+        λ p. e .0 (p .0, p .1, with-back acceptRefusal s c h f g t d (p .2)),
+        λ r. let p = e .1 r in (p .0, p .1, with-there acceptRefusal s c h f g t d (p .2)),
       )
 
   module _ (marks : List ℕ) where

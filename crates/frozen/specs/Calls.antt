@@ -3,8 +3,8 @@
 use Prim.Native.Nat.{ℕ}
 use mathlib.Core.List.{List}
 use lib.IntN.{ℤ}
-use Rattle.tree.specs.Accept.{acceptanceRefusal, Accepts}
-use Rattle.tree.specs.declared.Acceptance.{Acceptance}
+use Rattle.accept.specs.Accept.{acceptRefusal, AcceptOf}
+use Rattle.accept.specs.declared.AcceptAnswer.{AcceptAnswer}
 use Rattle.spines.specs.Heads.{headsRefusal, Headings}
 use Rattle.spines.specs.declared.HeadsAnswer.{HeadsAnswer}
 use Rattle.changes.specs.Change.{changeRefusal, Commits, Aborts}
@@ -27,8 +27,8 @@ use Rattle.vetting.specs.declared.Vetted.{Vetted}
 use Rattle.dimacs.specs.Write.{Wrote, writeRefusal, VersionOne, WriteOf}
 use Rattle.changeset.specs.With.{With}
 
-abbrev pub AcceptsWith : List ℕ → List ℕ → Acceptance → Type 0
-AcceptsWith s c = With Acceptance acceptanceRefusal s c Accepts
+abbrev pub AcceptWith : List ℕ → List ℕ → AcceptAnswer → Type 0
+AcceptWith s c = With AcceptAnswer acceptRefusal s c AcceptOf
 
 abbrev pub PairWith : List ℕ → List ℕ → List ℕ → ℕ → ℕ → PairAnswer → Type 0
 PairWith s c marks a b = With PairAnswer pairRefusal s c (λ t. PairOf t marks a b)

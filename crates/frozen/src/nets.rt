@@ -1,7 +1,7 @@
 // Those that list nothing and change no mark.
 ghost use Rattle.window.specs.Window.{window};
 ghost use Rattle.frozen.specs.Calls.{
-  AcceptsWith,
+  AcceptWith,
   PairWith,
   HeaviestWith,
   HeaviestExactWith,
@@ -10,25 +10,25 @@ ghost use Rattle.frozen.specs.Calls.{
   ConvertsWith,
 };
 use crate::refusal;
+use accept::AcceptAnswer;
 use changeset::write_in;
 use convert::Conversion;
 use heaviest::HeaviestAnswer;
 use pair::PairAnswer;
 use spines::HeadsAnswer;
-use tree::Acceptance;
 use window::WindowAnswer;
 
-// Acceptance of the changed table.
-pub fn accept_with(table: &[u8], changes: &[u8]) -> Acceptance
-    ensures { λ r. ⌜ AcceptsWith (now (table .entry)) (now (changes .entry)) r ⌝ }
+// Acceptance of the changed table, with how many of its rows are filler.
+pub fn accept_with(table: &[u8], changes: &[u8]) -> AcceptAnswer
+    ensures { λ r. ⌜ AcceptWith (now (table .entry)) (now (changes .entry)) r ⌝ }
 {
     let mut buffer: [u8; 49152] = [0; 49152];
     let k = write_in(table, changes, &mut buffer);
     if k != 0 {
-        return Acceptance::Refused(refusal(k));
+        return AcceptAnswer::Refused(refusal(k));
     }
     let size = table.len();
-    tree::accept(&buffer[..size])
+    accept::accept(&buffer[..size])
 }
 
 // The path between two nodes.

@@ -1,5 +1,5 @@
 -- Counting: the numbers below n, a list without one member, and the laws of Count (one count at the most, the same for
--- the same property, the sum over two parts, one more).
+-- the same property, the sum over two parts, one more, those below n + 1).
 use Prim.Native.Nat.{ℕ, zero, suc, _+_, _≤_, _<_}
 use mathlib.Core.Path.{_≡_, refl, sym, ap, _∙_}
 use mathlib.Core.Logic.{_⊎_, _≢_, ⊎-elim}
@@ -144,24 +144,30 @@ count-more {P} {Q} z q n f g c = record {
     pick x h (yes e) = at e
     pick x h (no m) = past (c .all x (f x h m))
 
+-- those below n that have a property, and n itself: it has it, or not
+module _ (P : ℕ → Type 0) (n : ℕ) where
+  lower : (x : ℕ) → (x < n) × P x → (x < suc n) × P x
+  lower x h = (omega (arith, h .0), h .1)
+
+  pub count-next : {k : ℕ} → P n → Count (λ x. (x < n) × P x) k → Count (λ x. (x < suc n) × P x) (suc k)
+  count-next p =
+      count-more n (omega arith, p) (λ h. omega (arith, h .0)) (λ x h m. (omega (arith, h .0), h .1)) lower
+
+  pub count-over : {k : ℕ} → ¬ P n → Count (λ x. (x < n) × P x) k → Count (λ x. (x < suc n) × P x) k
+  count-over m = count-same lower (λ x h. (off x h (ℕ-discrete x n), h .1))
+    where
+      off : (x : ℕ) → (x < suc n) × P x → Dec (x ≡ n) → x < n
+      off x h (yes e) = absurd (m (rw e at (h .1)))
+      off x h (no q) = omega (arith, h .0)
+
 -- where the property is decided
 unfoldable pub count-dec : {P : ℕ → Type 0} (n : ℕ) → ((x : ℕ) → Dec (P x)) → (k : ℕ) × Count (λ x. (x < n) × P x) k
 count-dec zero d = (0, count-none (λ x h. omega (arith, h .0)))
 count-dec {P} (suc n) d = pick (d n) (count-dec n d)
   where
-    lower : (x : ℕ) → (x < n) × P x → (x < suc n) × P x
-    lower x h = (omega (arith, h .0), h .1)
-
     pick : Dec (P n) → (k : ℕ) × Count (λ x. (x < n) × P x) k → (k : ℕ) × Count (λ x. (x < suc n) × P x) k
-    pick (no m) t = (t .0, count-same lower (λ x h. (off x h (ℕ-discrete x n), h .1)) (t .1))
-      where
-        off : (x : ℕ) → (x < suc n) × P x → Dec (x ≡ n) → x < n
-        off x h (yes e) = absurd (m (rw e at (h .1)))
-        off x h (no q) = omega (arith, h .0)
-    pick (yes p) t = (
-      suc (t .0),
-      count-more n (omega arith, p) (λ h. omega (arith, h .0)) (λ x h m. (omega (arith, h .0), h .1)) lower (t .1),
-    )
+    pick (no m) t = (t .0, count-over P n m (t .1))
+    pick (yes p) t = (suc (t .0), count-next P n p (t .1))
 
 -- all numbers below n
 pub count-all : (n : ℕ) → Count (λ x. x < n) n

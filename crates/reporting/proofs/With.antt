@@ -8,11 +8,11 @@ use lib.ListN.{length, take}
 use Rattle.table.specs.Refuse.{Only, passed}
 use Rattle.table.specs.Refuse as unless
 use Rattle.table.specs.Header.{Header}
-use Rattle.table.proofs.Accepted.{Headed, past-header, header-past, header-map}
-use Rattle.tree.specs.Accept.{acceptanceRefusal, Accepts}
+use Rattle.table.proofs.Accepted.{past-header, header-map}
+use Rattle.tree.specs.Accept.{acceptanceRefusal}
 use Rattle.tree.specs.declared.Acceptance.{Acceptance}
 use Rattle.tree.specs.declared.Acceptance.the-variants.{Accepted, Refused}
-use Rattle.tree.proofs.Begins.{nothing-found}
+use Rattle.tree.proofs.Begins.{accepted-headed}
 use Rattle.text.specs.work.Put.{Put}
 use Rattle.text.proofs.Puts.{put-front}
 use Rattle.lines.specs.Lines.{refusedText}
@@ -35,9 +35,6 @@ whole-with-only s c x y p q =
 
 -- a report says 1 to 6 of its table by itself: both ways
 module _ (s : List ℕ) where
-  headed : {n b : ℕ} → Accepts s (Accepted n b) → Headed s
-  headed a = header-past (λ k r. acceptanceRefusal k r 0) {s = s} (λ k r n o e. nothing-found e) a .0
-
   abbrev handed : Acceptance → List ℕ
   handed (Accepted n b) = []
   handed (Refused why) = refusedText (why .number) (why .row) (why .ring)
@@ -45,8 +42,8 @@ module _ (s : List ℕ) where
   said-twice : {t : List ℕ} → ReportOf s t → Header (List ℕ) (λ k r. refusedText k r 0) s (ReportOf s) t
   said-twice (report.refused p) =
       header-map handed (λ k r. acceptanceRefusal k r 0) s (λ h e. report.refused p) p
-  said-twice (none a h) = past-header (λ k r. refusedText k r 0) {s = s} (headed a) (none a h)
-  said-twice (lines a h l) = past-header (λ k r. refusedText k r 0) {s = s} (headed a) (lines a h l)
+  said-twice (none a h) = past-header (λ k r. refusedText k r 0) {s = s} (accepted-headed s a) (none a h)
+  said-twice (lines a h l) = past-header (λ k r. refusedText k r 0) {s = s} (accepted-headed s a) (lines a h l)
 
   said-once : {t : List ℕ} → Header (List ℕ) (λ k r. refusedText k r 0) s (ReportOf s) t → ReportOf s t
   said-once (unless.refused n) = report.refused (unless.refused n)

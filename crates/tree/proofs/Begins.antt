@@ -14,7 +14,17 @@ use Rattle.table.specs.declared.Refusal as why
 use Rattle.table.specs.declared.Opening.{Opening}
 use Rattle.table.specs.declared.Opening.the-variants as opening
 use Rattle.table.proofs.Refusals.{past-rows, first-bad-map, by-rows}
-use Rattle.table.proofs.Accepted.{GoodTable, Own, accepted, tested-past, tested-map, tested-rest, by-tested}
+use Rattle.table.proofs.Accepted.{
+  Headed,
+  GoodTable,
+  Own,
+  accepted,
+  header-past,
+  tested-past,
+  tested-map,
+  tested-rest,
+  by-tested,
+}
 use Rattle.table.proofs.Accepted as table
 use Rattle.table.proofs.Only.{tested-both}
 use Rattle.net.specs.work.Forest.{Forest}
@@ -189,6 +199,9 @@ accept-sound : (s : List ℕ) (n b : ℕ) → Accepts s (Accepted n b)
     → Sound s × (Accepted n b ≡ Accepted (nodesOf s) (boundOf s))
 accept-sound s n b p =
     begins-sound acceptanceRefusal s (λ k r g _. nothing-found) p
+
+pub accepted-headed : (s : List ℕ) {n b : ℕ} → Accepts s (Accepted n b) → Headed s
+accepted-headed s p = header-past (λ k r. acceptanceRefusal k r 0) {s = s} (λ k r n o. nothing-found) p .0
 
 pub record Admitted (s : List ℕ) (n b : ℕ) : Type 0 where
   pub net : Net s n

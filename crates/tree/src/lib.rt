@@ -26,7 +26,7 @@ pub enum Acceptance {
     Refused(Refusal),
 }
 
-// Tests 1 to 11, in order.
+// Between crates: tests 1 to 11, in order. The operation accept (crate accept) is this and a count.
 pub fn accept(s: &[u8]) -> Acceptance
     ensures { λ r. ⌜ Accepts (now (s .entry)) r ⌝ }
 {
@@ -37,7 +37,7 @@ pub fn accept(s: &[u8]) -> Acceptance
     accept_in(s, &mut parent, &mut half, &mut order, &mut place)
 }
 
-// Between crates: the same in lent arrays, those of the walk that the caller makes afterwards. Nothing is asked of them
+// The same in lent arrays, those of the walk that the caller makes afterwards. Nothing is asked of them
 // and nothing promised.
 pub fn accept_in(
     s: &[u8],

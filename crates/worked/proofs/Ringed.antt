@@ -11,10 +11,11 @@ use Rattle.table.specs.Header.{nodesOf}
 use Rattle.net.specs.Graph.{First, Walk, stop, go}
 use Rattle.net.specs.Net.{firstEnd, secondEnd}
 use Rattle.net.specs.Ring.{closed}
-use Rattle.tree.specs.Accept.{acceptanceRefusal, Accepts}
 use Rattle.tree.specs.declared.Refusal.{Refusal}
-use Rattle.tree.specs.declared.Acceptance.the-variants.{Refused}
 use Rattle.tree.proofs.Eleven.{first-refused}
+use Rattle.accept.specs.Accept.{acceptRefusal, AcceptOf}
+use Rattle.accept.specs.declared.AcceptAnswer.the-variants.{Refused}
+use Rattle.accept.proofs.Theorems.{refused-as-acceptance}
 use Rattle.net.proofs.Labels.{both, grows, grows-forest}
 use Rattle.worked.proofs.Tests.{every, every-passed, throughout}
 use Rattle.worked.proofs.Accepted.{good?, good}
@@ -45,7 +46,7 @@ module _ (way : ℕ → ℕ → List ℕ) (s : List ℕ) (why : Refusal) where
   unfoldable pub ringed? : Bool
   ringed? = every tests
 
-  pub is-ringed : T ringed? → Accepts s (Refused why)
+  pub is-ringed : T ringed? → AcceptOf s (Refused why)
   unfolding ringed?
   is-ringed t =
       let p = every-passed tests t in
@@ -53,11 +54,11 @@ module _ (way : ℕ → ℕ → List ℕ) (s : List ℕ) (why : Refusal) where
       let k : why .number ≡ 11 = eqb→eq _ _ (q .1 .0) in
       let g : why .ring ≡ 1 + length rs = eqb→eq _ _ (q .1 .1 .0) in
       let w = is-walk s (firstEnd s r) rs (secondEnd s r) (p .1 .1 .1 .0) in
-      turn (λ i. acceptanceRefusal (k i) r (why .ring))
-      (first-refused s (good s (p .0)) r (why .ring) (ltb→lt _ _ (p .1 .0))
+      turn (λ i. acceptRefusal (k i) r (why .ring))
+      (refused-as-acceptance s 11 r (why .ring) (first-refused s (good s (p .0)) r (why .ring) (ltb→lt _ _ (p .1 .0))
       (grows-forest (firstEnd s) (secondEnd s) r (p .1 .1 .0))
-      (closed rs (met s (firstEnd s r) rs, earlier r (q .0) (w .0), w .1) g) (λ e. omega (arith, e, g)))
+      (closed rs (met s (firstEnd s r) rs, earlier r (q .0) (w .0), w .1) g) (λ e. omega (arith, e, g))))
     where
-      turn : Refused why ≡ acceptanceRefusal 11 r (why .ring) → Accepts s (acceptanceRefusal 11 r (why .ring))
-          → Accepts s (Refused why)
+      turn : Refused why ≡ acceptRefusal 11 r (why .ring) → AcceptOf s (acceptRefusal 11 r (why .ring))
+          → AcceptOf s (Refused why)
       turn e h = rw e h

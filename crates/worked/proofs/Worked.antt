@@ -19,7 +19,7 @@ use Rattle.spines.proofs.Head.{head-some}
 use Rattle.marks.specs.Weighs.{weighs, weightUnder}
 use Rattle.numbers.specs.Bytes.{bytes}
 use Rattle.pages.specs.Bytes.{row, rows}
-use Rattle.tree.specs.declared.Acceptance.the-variants as acceptance
+use Rattle.accept.specs.declared.AcceptAnswer.the-variants as acceptance
 use Rattle.spines.specs.declared.HeadsAnswer.the-variants as written
 use Rattle.changes.specs.declared.Change.the-variants as change
 use Rattle.heaviest.specs.Heaviest.{heaviestRefusal, HeaviestExactOf}
@@ -63,7 +63,7 @@ by x = getD (0 ∷ 0 ∷ 1 ∷ 2 ∷ 3 ∷ []) x 0
 
 -- the test of a case, by its operation
 unfoldable check : Case → Bool
-check (accept s (acceptance.Accepted n b)) = false
+check (accept s (acceptance.Accepted n b k)) = false
 check (accept s (acceptance.Refused why)) = ringed? way s why
 check (heaviest s marks o) = best? way s marks 16 (at-most (boundOf s)) o
 check (exact s marks o) = best? way s marks 21 (exactly (boundOf s)) o
@@ -80,7 +80,7 @@ check (claim s marks run a b (change.Refused why, after)) = refused? way s marks
 
 check-holds : (c : Case) → T (check c) → Holds c
 unfolding check
-check-holds (accept s (acceptance.Accepted n b)) t = absurd t
+check-holds (accept s (acceptance.Accepted n b k)) t = absurd t
 check-holds (accept s (acceptance.Refused why)) t = is-ringed way s why t
 check-holds (heaviest s marks o) t = is-best way s marks 16 (at-most (boundOf s)) o t
 check-holds (exact s marks o) t = is-best way s marks 21 (exactly (boundOf s)) o t

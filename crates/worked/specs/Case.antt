@@ -6,8 +6,8 @@ use lib.IntN.{ℤ}
 use Rattle.table.specs.Header.{nodesOf}
 use Rattle.arrays.specs.Members.{In}
 use Rattle.net.specs.Net.{firstEnd, secondEnd}
-use Rattle.tree.specs.Accept.{Accepts}
-use Rattle.tree.specs.declared.Acceptance.{Acceptance}
+use Rattle.accept.specs.Accept.{AcceptOf}
+use Rattle.accept.specs.declared.AcceptAnswer.{AcceptAnswer}
 use Rattle.spines.specs.Spine.{ChildOf, Leaf}
 use Rattle.spines.specs.Heads.{Headings}
 use Rattle.spines.specs.declared.HeadsAnswer.{HeadsAnswer}
@@ -26,7 +26,7 @@ pub record LeavesAre (s nodes : List ℕ) : Type 0 where
   pub all : (x : ℕ) → Leaf (ChildOf (firstEnd s) (secondEnd s) (nodesOf s - 1) (nodesOf s)) (nodesOf s) x → In x nodes
 
 pub data Case : Type 0 where
-  accept : (s : List ℕ) → Acceptance → Case
+  accept : (s : List ℕ) → AcceptAnswer → Case
   heaviest : (s marks : List ℕ) → HeaviestAnswer → Case
   exact : (s marks : List ℕ) → HeaviestAnswer → Case
   listing : (s marks : List ℕ) (floor : ℤ) (low high : ℕ) (lent : List ℕ) → Listed × List ℕ → Case
@@ -36,7 +36,7 @@ pub data Case : Type 0 where
   claim : (s marks : List ℕ) (run a b : ℕ) → Change × List ℕ → Case
 
 abbrev pub Holds : Case → Type 0
-Holds (accept s o) = Accepts s o
+Holds (accept s o) = AcceptOf s o
 Holds (heaviest s marks o) = HeaviestOf s marks o
 Holds (exact s marks o) = HeaviestExactOf s marks o
 Holds (listing s marks floor low high lent o) = ListingOf s marks floor low high lent o

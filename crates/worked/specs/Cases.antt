@@ -4,7 +4,7 @@
 use Prim.Native.Nat.{ℕ}
 use mathlib.Core.List.{List, [], _∷_, _++_}
 use lib.IntN.{pos, negsuc}
-use Rattle.tree.specs.Accept.{acceptanceRefusal}
+use Rattle.accept.specs.Accept.{acceptRefusal}
 use Rattle.spines.specs.declared.HeadsAnswer.the-variants.{Written}
 use Rattle.changes.specs.Change.{changeRefusal}
 use Rattle.changes.specs.declared.Change.the-variants.{Changed}
@@ -89,7 +89,7 @@ cases =
     ∷ claim (n5 9) unmarked 7 0 3 (changeRefusal unmarked 18 0 0)
     ∷ claim (n5 9) marked 7 0 3 (changeRefusal marked 18 0 0)
     ∷ heaviest (n5 2) crossed (Between 3 4 2 (negsuc 2))
-    ∷ accept (net5 0 1 8) (acceptanceRefusal 11 1 2)
+    ∷ accept (net5 0 1 8) (acceptRefusal 11 1 2)
     ∷ heaviest (cells5 9) unmarked (Between 2 3 9 (pos 9))
     ∷ heaviest (cells5 2) unmarked (Between 3 4 2 (negsuc 49))
     ∷ pair (cells5 9) unmarked 2 4 (Found 11 (negsuc 40) 2)

@@ -1,8 +1,8 @@
 -- What an answer has room for: the three numbers of a refusal, a listing's counts, the row of a list, and the sizes of
 -- a table and of texts, as signed numbers of 64 bits.
 use Prim.Native.Nat.{ℕ, _+_, _≤_, _<_}
-use Rattle.tree.specs.declared.Acceptance.{Acceptance}
-use Rattle.tree.specs.declared.Acceptance.the-variants as acceptance
+use Rattle.accept.specs.declared.AcceptAnswer.{AcceptAnswer}
+use Rattle.accept.specs.declared.AcceptAnswer.the-variants as accept
 use Rattle.spines.specs.declared.HeadsAnswer.{HeadsAnswer}
 use Rattle.spines.specs.declared.HeadsAnswer.the-variants as heads
 use Rattle.changes.specs.declared.Change.{Change}
@@ -19,6 +19,8 @@ use Rattle.paging.specs.declared.Listed.{Listed}
 use Rattle.paging.specs.declared.Listed.the-variants as listed
 use Rattle.vetting.specs.declared.Vetted.{Vetted}
 use Rattle.vetting.specs.declared.Vetted.the-variants as vetted
+use Rattle.writer.specs.declared.RowAnswer.{RowAnswer}
+use Rattle.writer.specs.declared.RowAnswer.the-variants as row
 use Rattle.dimacs.specs.declared.ReadAnswer.{ReadAnswer}
 use Rattle.dimacs.specs.declared.ReadAnswer.the-variants as read
 use Rattle.dimacs.specs.declared.WriteAnswer.{WriteAnswer}
@@ -30,9 +32,9 @@ pub record Room (row ring : ℕ) : Type 0 where
   pub few : ring ≤ 4096
 
 -- of each sort of answer: a refusal's
-abbrev pub AcceptanceRoom : Acceptance → Type 0
-AcceptanceRoom (acceptance.Accepted nodes bound) = Unit {0}
-AcceptanceRoom (acceptance.Refused why) = Room (why .row) (why .ring)
+abbrev pub AcceptRoom : AcceptAnswer → Type 0
+AcceptRoom (accept.Accepted nodes bound filler) = Unit {0}
+AcceptRoom (accept.Refused why) = Room (why .row) (why .ring)
 
 abbrev pub PairRoom : PairAnswer → Type 0
 PairRoom (pair.Found length weight hops) = Unit {0}
@@ -78,3 +80,7 @@ ReadRoom (read.Refused why) = Room (why .row) (why .ring)
 abbrev pub WriteRoom : WriteAnswer → Type 0
 WriteRoom (write.Texts a b) = (a < 9223372036854775808) × (b < 9223372036854775808)
 WriteRoom (write.Refused why) = Room (why .row) (why .ring)
+
+abbrev pub RowRoom : RowAnswer → Type 0
+RowRoom row.Written = Unit {0}
+RowRoom (row.Refused why) = why .row < 4096

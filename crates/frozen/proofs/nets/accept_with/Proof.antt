@@ -1,7 +1,7 @@
 -- `accept_with`: the changed table is written out, and acceptance asked of it.
 use native.Mathlib.Omega.{arith}
 use borrow.Author.Needs.{needs}
-use Rattle.tree.specs.Accept.{acceptanceRefusal}
+use Rattle.accept.specs.Accept.{acceptRefusal}
 use Rattle.changeset.proofs.Withs.{written-fits, written-long, refused-with, passed-with}
 use Rattle.frozen.proofs.nets.accept_with.Statement.{statement}
 use Rattle.frozen.proofs.nets.accept_with.Tie as tie
@@ -20,7 +20,7 @@ returns c =
     let write-in-ensures = c .before .before .before .write-in .ensures in
     let args = c .before .before .before .before .before .before .before .args in
     rw (c .refusal .ensures)
-    (refused-with (args .table .now) (args .changes .now) _ acceptanceRefusal _ (c .before .if1 .taken)
+    (refused-with (args .table .now) (args .changes .now) _ acceptRefusal _ (c .before .if1 .taken)
     write-in-ensures)
 
 array-share-prefix-buffer : tie.Need-array-share-prefix-buffer
@@ -45,7 +45,7 @@ returns-2 : tie.Need-returns-2
 returns-2 c =
     let write-in-ensures = c .before .before .before .before .write-in .ensures in
     let args = c .before .before .before .before .before .before .before .before .args in
-    passed-with (args .table .now) (args .changes .now) _ acceptanceRefusal
+    passed-with (args .table .now) (args .changes .now) _ acceptRefusal
     (rw (c .before .before .if1 .left) at write-in-ensures) (c .accept .ensures)
 
 pub accept-with-spec : {M : Type 1} → statement M
