@@ -8,7 +8,7 @@ use arrays::{fill_wide, long, wide};
 use roads::{Step, next_arc};
 
 // How a text is read: nodes from 1 to `nodes`, numbers from -low to top.
-#[derive(Drop)]
+#[derive(Clone, Copy)]
 pub struct Kind {
     pub nodes: u16,
     pub top: u64,

@@ -27,7 +27,7 @@ fn refused(number: u8) -> WriteAnswer
 
 // Between crates: 1, 2, and 3 for any version but 1; or 0.
 pub fn version_one(s: &[u8]) -> u8
-    ensures* { λ k. ⌜ VersionOne _ (λ k r g. k) s.now (λ k. k ≡ 0) k ⌝ }
+    ensures { VersionOne _ (λ k r g. k) s.now (λ k. k ≡ 0) result }
 {
     if s.len() < 12 {
         return 1;

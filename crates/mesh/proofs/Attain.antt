@@ -58,10 +58,10 @@ module _ {u v : ℕ → ℕ} {k n a : ℕ} {par row place : ℕ → ℕ} {T : Tr
       by (yes q) = omega (arith, side_in T b q)
       by (no q) = omega (arith, side_out T q)
 
-  pub nodes_fit : {x y : ℕ} {rs ns : List ℕ} → x < n → Walk u v (First k) x rs ns y → (z : ℕ) → In z (x ∷ ns) → z < n
-  nodes_fit b w z (at e) = rw e b
-  nodes_fit b stop z (past i) = absurd (not_nil i)
-  nodes_fit b (go h e w) z (past i) = nodes_fit (ends_fit T h e).1 w z i
+  pub nodes_fit : (z : ℕ) {x y : ℕ} {rs ns : List ℕ} → x < n → Walk u v (First k) x rs ns y → In z (x ∷ ns) → z < n
+  nodes_fit z b w (at e) = rw e b
+  nodes_fit z b stop (past i) = absurd (not_nil i)
+  nodes_fit z b (go h e w) (past i) = nodes_fit z (ends_fit T h e).1 w i
 
   -- a way round z's band, from the parent t of its top node to z: it meets nodes of the band alone
   pub record Way (z t l : ℕ) : Type 0 where
@@ -120,7 +120,7 @@ module _ {u v : ℕ → ℕ} {k n a : ℕ} {par row place : ℕ → ℕ} {T : Tr
     only_band {rs = rs} x d f g i = pick (ℕ_discrete g a) (ℕ_discrete t a) (ℕ_discrete (over g) (over z))
       where
         bg : g < n
-        bg = nodes_fit bt x g i
+        bg = nodes_fit g bt x i
 
         sides : (y : ℕ) → Node n a y → over y ≢ over z → Even (side T y t + side T y g)
         sides y by o =

@@ -75,7 +75,7 @@ module _ (u v : ℕ → ℕ) where
     pub within : (r : ℕ) → In r part → In r rs
     pub once : Distinct rs → Distinct part
 
-  pub prefix : {P : ℕ → Type 0} {a b y : ℕ} {rs ns : List ℕ} → Walk u v P a rs ns b → In y (a ∷ ns) → Prefix P a y rs
+  pub prefix : {P : ℕ → Type 0} {y a b : ℕ} {rs ns : List ℕ} → Walk u v P a rs ns b → In y (a ∷ ns) → Prefix P a y rs
   prefix w (at q) =
       record { part = []; nodes = []; walk = rw q stop; within = λ r i. absurd (not_nil i); once = λ d. tt }
   prefix stop (past i) = absurd (not_nil i)

@@ -99,6 +99,7 @@ each_length f (x ∷ l) = ap suc (each_length f l)
 
 pub in_each : (f : ℕ → ℕ) {x : ℕ} (l : List ℕ) → In x l → In (f x) (each f l)
 unfolding each
+in_each f [] i = absurd (not_nil i)
 in_each f (y ∷ l) (at e) = at (ap f e)
 in_each f (y ∷ l) (past i) = past (in_each f l i)
 

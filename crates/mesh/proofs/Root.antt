@@ -300,7 +300,7 @@ module _ {u v : ℕ → ℕ} {k n a : ℕ} {par order place : List ℕ} (h : Hun
           }
         where
           fits : (y : ℕ) {m : ℕ} → PathWith u v k a y m → y < n
-          fits y t = nodes_fit cuts h.tree.root t.1.1 y (end_in u v t.1.1)
+          fits y t = nodes_fit cuts y h.tree.root t.1.1 (end_in u v t.1.1)
 
           upper : (y : ℕ) {m : ℕ} (t : PathWith u v k a y m) → length t.0 ≤ at D y
           upper y t = bound cuts valued (fits y t) t.1.1 t.1.2

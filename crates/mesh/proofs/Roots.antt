@@ -6,7 +6,6 @@ use mathlib.Core.Logic.{◌⊎◌, inl, inr}
 use mathlib.Core.List.{List, []}
 use native.Mathlib.Omega.{arith}
 use native.Mathlib.Decide.{ℕ_discrete}
-use Rattle.arrays.specs.At.{at}
 use Rattle.arrays.proofs.Members.{not_nil}
 use Rattle.table.specs.Refuse.{refused, passed}
 use Rattle.net.specs.Graph.{stop}

@@ -47,10 +47,10 @@ shows_flip : (s marks : List ℕ) (n a b : ℕ) (x : PairAnswer) → ShowsPath s
 shows_flip s marks n a b (Found l w h) p = (value_flip (first_end s) (second_end s) p.0, hops_flip p.1)
 shows_flip s marks n a b (Refused why) p = p
 
-measures_flip : {s marks : List ℕ} {n a b : ℕ} {x : PairAnswer} → Measures s marks n a b x → Measures s marks n b a x
-measures_flip {s} {marks} {n} {a} {b} {x} =
+measures_flip : (s marks : List ℕ) {n a b : ℕ} {x : PairAnswer} → Measures s marks n a b x → Measures s marks n b a x
+measures_flip s marks {n} {a} {b} {x} =
     unless_map (λ o. o) (λ _. unless_alike two_flip two_flip (shows_flip s marks n a b x))
 
 pub pair_either : (s marks : List ℕ) (a b : ℕ) (x y : PairAnswer) → PairOf s marks a b x → PairOf s marks b a y → x ≡ y
 pair_either s marks a b =
-    begins_alike pair_refusal s (λ t x y p q. measures_only s marks (nodes_of s) b a t x y (measures_flip p) q)
+    begins_alike pair_refusal s (λ t x y p q. measures_only s marks (nodes_of s) b a t x y (measures_flip s marks p) q)

@@ -1,7 +1,7 @@
 -- Heads: each node has one, a spine is one stretch of a climb, and a node heads its own spine exactly if it is no one's
 -- main child.
 use Prim.Native.Nat.{ℕ, zero, suc, ◌<◌}
-use mathlib.Core.Path.{◌≡◌, refl, sym, ◌∙◌}
+use mathlib.Core.Path.{◌≡◌, refl, sym, ap, ◌∙◌}
 use mathlib.Core.Logic.{◌⊎◌, inl, inr, ◌≢◌}
 use native.Mathlib.Omega.{arith}
 use native.Mathlib.Decide.{ℕ_discrete}
@@ -49,9 +49,13 @@ module _ {n : ℕ} {par place : ℕ → ℕ} (T : Tree n par place) where
       pick (inr s) ih = ih (rw m.child.of at s.1) k
 
   -- a node that is its own head is no main child
+  own_not_main_at : {p h x : ℕ} → Head (Child n par) n h x → h ≡ x → ¬ Main (Child n par) n p x
+  own_not_main_at {p} (top b o) e m = o p m
+  own_not_main_at {p} {h} {x} (down m' k) e m =
+      omega (arith, e, ap place e, child_later T m'.child, place_up T (head_fits k) (head_above k))
+
   pub own_not_main : {p x : ℕ} → Head (Child n par) n x x → ¬ Main (Child n par) n p x
-  own_not_main {p} (top b o) m = o p m
-  own_not_main {p} {x} (down m' h) m = omega (arith, child_later T m'.child, place_up T (head_fits h) (head_above h))
+  own_not_main k m = own_not_main_at k refl m
 
   unfoldable pub head_some : (m x : ℕ) → x < n → place x < m → (h : ℕ) × Head (Child n par) n h x
   head_some zero x b l = absurd (omega arith)

@@ -1,12 +1,17 @@
 use Rattle.mesh.proofs.Roots.{two_rings_refused, rooting_start, rooting_keep, rooting_more, rooting_end}
 use Rattle.table.specs.Refuse.{refused}
 use borrow.Author.Tests.{not-true, not-false}
-use Prim.Native.Nat.{◌-◌}
 use native.Mathlib.Omega.{arith}
 use Rattle.mesh.proofs.from_all.Goals as goal
 
 pub spread-requires : goal.spread-requires
 spread-requires c = (c.requires.0, c.requires.1)
+
+pub returns-then-not-spread : goal.returns-then-not-spread
+returns-then-not-spread c = rw c.refused.ensures (refused (c.spread.ensures.1 c.if-not-spread.true))
+
+pub loop-a-init : goal.loop-a-init
+loop-a-init c = (rooting_start c.requires.1, (_, c.spread.ensures.0 c.if-not-spread.false))
 
 pub from_root-g-requires : goal.from_root-g-requires
 from_root-g-requires c =

@@ -1,9 +1,7 @@
 -- `from_root` meets its contract: the tree turned, the bands, the sweep, and the first node with the greatest value.
 use Rattle.mesh.proofs.Root.{passed_low, ordered, banded, root_gives}
 use Rattle.mesh.proofs.Reading.{wide_readable}
-use borrow.Author.Tests.{not-true, not-false}
 use mathlib.Core.Bool.{true≢false, false≢true}
-use Prim.Native.Nat.{◌-◌}
 use mathlib.Core.Path.{refl}
 use native.Mathlib.Omega.{arith}
 use Rattle.mesh.proofs.from_root.Goals as goal
@@ -18,6 +16,20 @@ passes-requires c =
     let turn-ensures = c.turn.ensures in
     let pre = c.requires in
     (wide_readable pre.0, record { n = _; a = _; order = _; hung = turn-ensures _ _ _ _ pre.1.1 })
+
+pub returns-then-not-passes : goal.returns-then-not-passes
+returns-then-not-passes c =
+    let h = c.turn.ensures _ _ _ _ c.requires.1.1 in (
+      λ t. absurd (false≢true t),
+      λ _. (c.passes.ensures _ _ _ h).1 c.if-not-passes.true,
+      omega (arith, c.requires.3),
+    )
+
+pub sizes-requires : goal.sizes-requires
+sizes-requires c =
+    let h = c.turn.ensures _ _ _ _ c.requires.1.1 in
+    let d = (c.passes.ensures _ _ _ h).0 c.if-not-passes.false in
+    (h.few, d.long, passed_low h d)
 
 pub sweep-requires : goal.sweep-requires
 sweep-requires c =
@@ -49,7 +61,7 @@ returns c =
     let turn-ensures = c.turn.ensures in
     let pre = c.requires in
     let h = turn-ensures _ _ _ _ pre.1.1 in
-    let d = (passes-ensures _ _ _ h).0 (not-false _ if1-left) in
+    let d = (passes-ensures _ _ _ h).0 if1-left in
     let g = banded h d sizes-ensures.0 sizes-ensures.1 in (
       λ _. root_gives h pre.2 g (rw h.top.0 at c.sweep.ensures.0) c.farthest-z.ensures
           refl,

@@ -16,22 +16,26 @@ module _ (c : Else-h-ne0) where
   bytes = c.args.s.now
 
   headed : Headed bytes
-  headed = (head_good bytes (up.After-open-h c).«open».ensures c.if-h-ne0.false).0
+  headed = (head_good bytes c.open-h.ensures c.if-h-ne0.false).0
 
-  nodes_is : (up.After-open-h c).«open».result.nodes ≡ nodes_of bytes
-  nodes_is = ap (λ h. h.nodes) (head_good bytes (up.After-open-h c).«open».ensures c.if-h-ne0.false).1
+  nodes_is : c.open-h.result.nodes ≡ nodes_of bytes
+  nodes_is = ap (λ h. h.nodes) (head_good bytes c.open-h.ensures c.if-h-ne0.false).1
 
-  rows_is : (up.After-open-h c).«open».result.rows ≡ rows_of bytes
-  rows_is = ap (λ h. h.rows) (head_good bytes (up.After-open-h c).«open».ensures c.if-h-ne0.false).1
+  rows_is : c.open-h.result.rows ≡ rows_of bytes
+  rows_is = ap (λ h. h.rows) (head_good bytes c.open-h.ensures c.if-h-ne0.false).1
+
+pub returns-then-h-ne0 : goal.returns-then-h-ne0
+returns-then-h-ne0 c = rw c.refused.ensures (head_refused c.args.s.now c.open-h.ensures c.if-h-ne0.true)
 
 pub tested-requires : goal.tested-requires
-tested-requires c = (
-  λ r l. headed_stands (headed c) r (omega (arith, rows_is c)),
-  (headed c).version,
-  omega (arith, nodes_is c, (headed c).some),
-  omega (arith, nodes_is c, (headed c).few),
-)
+tested-requires c =
+    let t = (goal.at.tested-requires c).Else-h-ne0 in (
+      λ r l. headed_stands (headed t) r (omega (arith, rows_is t)),
+      (headed t).version,
+      omega (arith, nodes_is t, (headed t).some),
+      omega (arith, nodes_is t, (headed t).few),
+    )
 
 pub returns : goal.returns
 returns c =
-    head_passed (headed (goal.at.returns c).Else-h-ne0) (nodes_is (goal.at.returns c).Else-h-ne0) (rows_is (goal.at.returns c).Else-h-ne0) c.tested.ensures
+    let t = (goal.at.returns c).Else-h-ne0 in head_passed (headed t) (nodes_is t) (rows_is t) c.tested.ensures

@@ -26,7 +26,7 @@ loop-v-preserved c =
       elim c.if-passes.branch [
         then-passes w ↦
             rw (w.out-is, w.k-is)
-            (seconds_add _ h.0 _ _ refl refl _ refl h.2 (passes-ensures.holds w.if-passes.true) w.add.ensures)
+            (seconds_add _ h.0 _ _ refl refl _ refl h.2 (passes-ensures.holds w.if-passes.true) w.add-k.ensures)
         | else-passes w ↦
             rw (w.out-is, w.k-is) (seconds_skip _ h.0 _ _ refl refl (passes-ensures.fails w.if-passes.false))
       ],

@@ -24,13 +24,13 @@ loop-x-init c =
     (h, pre.0, climb_node h pre.0)
 
 pub overflow_add-l : goal.overflow_add-l
-overflow_add-l c = let h = sums_fit (goal.at.overflow_add-l c).After-way_told-in-loop-x-1 in omega (arith, h.0, h.1)
+overflow_add-l c = let h = sums_fit (goal.at.overflow_add-l c).In-loop-x in omega (arith, h.0, h.1)
 
 pub overflow_add-w : goal.overflow_add-w
-overflow_add-w c = let h = sums_fit (goal.at.overflow_add-w c).After-l-1 in omega (arith, h.3, h.4)
+overflow_add-w c = let h = sums_fit (goal.at.overflow_add-w c).In-loop-x in omega (arith, h.3, h.4)
 
 pub overflow_sub-w : goal.overflow_sub-w
-overflow_sub-w c = let h = sums_fit (goal.at.overflow_sub-w c).After-l-1 in omega (arith, h.2)
+overflow_sub-w c = let h = sums_fit (goal.at.overflow_sub-w c).In-loop-x in omega (arith, h.2)
 
 pub loop-x-smaller : goal.loop-x-smaller
 loop-x-smaller c =

@@ -1,6 +1,5 @@
 -- `extra` meets its contract.
 use mathlib.Core.Bool.{true≢false, false≢true}
-use Prim.Native.Nat.{◌-◌}
 use mathlib.Core.Logic.{inl, inr}
 use Rattle.mesh.proofs.bands.extra.Goals as goal
 

@@ -1,7 +1,5 @@
 use Rattle.mesh.proofs.Climbs.{passes_start, passes_skip, extra_not, round_of}
-use borrow.Author.Tests.{not-true, not-false}
 use mathlib.Core.Bool.{true≢false, false≢true}
-use Prim.Native.Nat.{◌-◌}
 use mathlib.Core.Path.{◌≡◌}
 use native.Mathlib.Omega.{arith}
 use Rattle.mesh.proofs.bands.passes.Goals as goal
@@ -60,6 +58,26 @@ round-requires c =
           wide2-ensures.0 (c.extra.ensures.0 c.if-extra.true)
           (loop-inv.1 t.n t.a t.order t.hung);
     }
+
+pub returns-then-not-round : goal.returns-then-not-round
+returns-then-not-round c =
+    let first-end-ensures = c.first_end-p.ensures in
+    let second-end-ensures = c.second_end-q.ensures in
+    λ n a order h.
+    let t = round_of h c.loop-r-test.true first-end-ensures second-end-ensures c.wide.ensures.0
+    c.wide-in-loop-r.ensures.0 (c.extra.ensures.0 c.if-extra.true) (c.loop-r.invariant.1 n a order h) in
+    (λ e. absurd (false≢true e), λ _. (c.round.ensures _ _ _ n a order _ t).1 c.if-not-round.true)
+
+pub loop-r-preserved-else-not-round : goal.loop-r-preserved-else-not-round
+loop-r-preserved-else-not-round c =
+    let first-end-ensures = c.first_end-p.ensures in
+    let second-end-ensures = c.second_end-q.ensures in (
+      omega arith,
+      λ n a order h.
+          let t = round_of h c.loop-r-test.true first-end-ensures second-end-ensures c.wide.ensures.0
+          c.wide-in-loop-r.ensures.0 (c.extra.ensures.0 c.if-extra.true) (c.loop-r.invariant.1 n a order h) in
+          (c.round.ensures _ _ _ n a order _ t).0 c.if-not-round.false,
+    )
 
 pub loop-r-preserved : goal.loop-r-preserved
 loop-r-preserved c =

@@ -1,7 +1,6 @@
 use Rattle.mesh.proofs.Climbs.{climb_start, step_fits, step_two, step_next, step_less, band_low, climb_end}
-use Rattle.arrays.specs.At.{at}
 use mathlib.Core.Bool.{true≢false, false≢true}
-use Prim.Native.Nat.{◌-◌, ◌<◌}
+use Prim.Native.Nat.{◌<◌}
 use native.Mathlib.Omega.{arith}
 use Rattle.mesh.proofs.bands.round.Goals.{After-later-z}
 use Rattle.mesh.proofs.bands.round.Goals as goal

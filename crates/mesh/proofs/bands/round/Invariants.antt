@@ -3,7 +3,7 @@ use Rattle.mesh.proofs.Climbs.{Climb}
 use Rattle.mesh.specs.work.Bands.{Round}
 use Rattle.arrays.specs.At.{at}
 use mathlib.Core.List.{List}
-use Prim.Native.Nat.{ℕ, ◌+◌, ◌-◌}
+use Prim.Native.Nat.{ℕ, ◌+◌}
 use Rattle.mesh.proofs.bands.round.Given as goal
 
 abbrev pub invariant-loop-x : goal.invariant-loop-x

@@ -1,5 +1,5 @@
 use Rattle.mesh.proofs.Sizing.{sizing_start, name_fits, size_fits, sizing_next, sizing_end}
-use Prim.Native.Nat.{◌-◌, ◌<◌}
+use Prim.Native.Nat.{◌<◌}
 use native.Mathlib.Omega.{arith}
 use Rattle.mesh.proofs.bands.sizes.Goals.{After-named-g}
 use Rattle.mesh.proofs.bands.sizes.Goals as goal

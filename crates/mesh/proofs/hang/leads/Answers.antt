@@ -1,7 +1,4 @@
 use borrow.Author.Count.{below_more}
-use Rattle.net.specs.Net.{first_end, second_end}
-use Rattle.arrays.specs.At.{at}
-use Prim.Native.Nat.{◌-◌}
 use native.Mathlib.Omega.{arith}
 use Rattle.mesh.proofs.hang.leads.Goals as goal
 

@@ -6,7 +6,9 @@ use Prim.Native.Nat.{ℕ, ◌-◌, ◌≤◌, ◌<◌}
 use Rattle.mesh.proofs.hang.leads.Given as goal
 
 abbrev pub invariant-loop-r : goal.invariant-loop-r
-invariant-loop-r l = (l.r ≤ l.rows) × ((i : ℕ) → i < l.r → Alike (at l.place (first_end l.s i)) (at l.place (second_end l.s i)))
+invariant-loop-r l =
+    (l.r ≤ l.rows)
+    × ((i : ℕ) → i < l.r → Alike (at l.place (first_end l.s i)) (at l.place (second_end l.s i)))
 
 abbrev pub decreases-loop-r : goal.decreases-loop-r
 decreases-loop-r l = l.rows - l.r

@@ -1,6 +1,5 @@
 -- `lone` meets its contract.
 use mathlib.Core.Bool.{true≢false, false≢true}
-use Prim.Native.Nat.{◌-◌}
 use mathlib.Core.Logic.{inl, inr}
 use Rattle.mesh.proofs.hang.lone.Goals as goal
 
@@ -14,4 +13,5 @@ pub returns-then-q-eq256-2 : goal.returns-then-q-eq256-2
 returns-then-q-eq256-2 c = (λ _. inr (c.if-p-eq256.false, c.if-q-eq256-2.true), λ t. absurd (true≢false t))
 
 pub returns : goal.returns
-returns c = (λ t. absurd (false≢true t), λ _. (λ e. absurd (c.if-p-eq256.false e), λ e. absurd (c.if-q-eq256-2.false e)))
+returns c =
+    (λ t. absurd (false≢true t), λ _. (λ e. absurd (c.if-p-eq256.false e), λ e. absurd (c.if-q-eq256-2.false e)))

@@ -1,7 +1,16 @@
-use Rattle.mesh.proofs.Growing.{grown_start, room, c_fits, grown_push, new_low, end_new, spread_end, spread_hung, spread_apart}
+use Rattle.mesh.proofs.Growing.{
+  grown_start,
+  room,
+  c_fits,
+  grown_push,
+  new_low,
+  end_new,
+  spread_end,
+  spread_hung,
+  spread_apart,
+}
 use Rattle.mesh.proofs.Reading.{wide_readable}
 use mathlib.Core.Bool.{true≢false, false≢true}
-use Prim.Native.Nat.{◌-◌}
 use native.Mathlib.Omega.{arith}
 use Rattle.mesh.proofs.hang.spread.Goals as goal
 

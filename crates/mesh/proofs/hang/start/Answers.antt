@@ -1,6 +1,5 @@
 -- `start` meets its contract: three arrays filled, and the root's places set.
 use Rattle.mesh.proofs.Growing.{root_alone}
-use Prim.Native.Nat.{◌-◌}
 use Rattle.mesh.proofs.hang.start.Goals as goal
 
 pub returns : goal.returns

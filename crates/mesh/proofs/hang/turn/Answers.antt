@@ -1,7 +1,17 @@
-use Rattle.mesh.proofs.Turning.{climbing_start, climbing_ready, climbing_next, turning_start, y_fits, turning_skip, turning_ready, turning_next, turning_end}
+use Rattle.mesh.proofs.Turning.{
+  climbing_start,
+  climbing_ready,
+  climbing_next,
+  turning_start,
+  y_fits,
+  turning_skip,
+  turning_ready,
+  turning_next,
+  turning_end,
+}
 use Rattle.mesh.proofs.Growing.{room, grown_start, c_fits}
 use Rattle.arrays.specs.At.{at}
-use Prim.Native.Nat.{◌-◌, ◌<◌}
+use Prim.Native.Nat.{◌<◌}
 use mathlib.Core.Path.{ap}
 use native.Mathlib.Omega.{arith}
 use Rattle.mesh.proofs.hang.turn.Goals.{After-wide-y}

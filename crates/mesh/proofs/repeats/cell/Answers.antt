@@ -1,5 +1,4 @@
 -- `cell` meets its contract.
-use Prim.Native.Nat.{◌-◌}
 use mathlib.Core.Logic.{inl, inr}
 use native.Mathlib.Omega.{arith}
 use Rattle.mesh.proofs.repeats.cell.Goals as goal

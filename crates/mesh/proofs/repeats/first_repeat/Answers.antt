@@ -1,6 +1,5 @@
 use Rattle.mesh.proofs.Repeating.{top_low, repeating_next, repeating_end}
 use Rattle.mesh.proofs.Reading.{wide_readable, less_readable}
-use Prim.Native.Nat.{◌-◌}
 use native.Mathlib.Omega.{arith}
 use Rattle.mesh.proofs.repeats.first_repeat.Goals as goal
 

@@ -1,6 +1,4 @@
 use Rattle.mesh.proofs.Repeating.{passing_start, slot_low, passing_found, passing_next, passing_end}
-use Rattle.net.specs.Net.{first_end, second_end}
-use Prim.Native.Nat.{◌-◌}
 use native.Mathlib.Omega.{arith}
 use Rattle.mesh.proofs.repeats.repeat_in.Goals as goal
 

@@ -4,13 +4,14 @@ use Rattle.table.specs.Refuse.{refused, passed}
 use Rattle.table.specs.Row.{row_at}
 use Rattle.table.proofs.Range.{too_low, too_high, in_range}
 use mir.Syntax.{w32}
-use mir.Val.{to_z, of_z}
+use mir.Val.{to_z, of_z, SFits}
 use mir.ValLaws.{to_z-of_z}
 use Prim.Native.Nat.{ℕ}
 use mathlib.Core.Path.{◌≡◌, refl, ap, ◌∙◌}
 use mathlib.Core.List.{List}
 use native.Mathlib.Omega.{arith}
-use Rattle.mesh.proofs.rows.row_number.Goals.{After-row_at-q, After-struct_told-1}
+use Rattle.std.proofs.Common.{rules}
+use Rattle.mesh.proofs.rows.row_number.Goals.{After-row_at-q}
 use Rattle.mesh.proofs.rows.row_number.Goals as goal
 
 -- the row read is the table's
@@ -37,43 +38,53 @@ module _ (c : After-row_at-q) where
   weight = ap (λ q. q.weight) is
 
 -- a signed field is held as bits
+held : (c : After-row_at-q)
+    → to_z w32 (of_z w32 c.row_at-q.result.weight) ≡ (row_at c.args.s.now c.args.r).weight
+held c = let fits : SFits w32 c.row_at-q.result.weight = search rules in to_z-of_z w32 _ fits ∙ weight c
+
 pub returns-then-n-a : goal.returns-then-n-a
-returns-then-n-a c = refused (λ n. omega (arith, first (goal.at.returns-then-n-a c).After-row_at-q, n.0))
+returns-then-n-a c =
+    let t = (goal.at.returns-then-n-a c).After-row_at-q in
+    refused (λ n. omega (arith, first t, n.0))
 
 pub returns-then-n-b : goal.returns-then-n-b
-returns-then-n-b c = refused (λ n. omega (arith, second (goal.at.returns-then-n-b c).After-row_at-q, n.1))
+returns-then-n-b c =
+    let t = (goal.at.returns-then-n-b c).After-row_at-q in
+    refused (λ n. omega (arith, second t, n.1))
 
 pub returns-then-a-b : goal.returns-then-a-b
 returns-then-a-b c =
-    passed (omega (arith, first (goal.at.returns-then-a-b c).After-row_at-q), omega (arith, second (goal.at.returns-then-a-b c).After-row_at-q)) (refused (λ n. n (omega (arith, first (goal.at.returns-then-a-b c).After-row_at-q, second (goal.at.returns-then-a-b c).After-row_at-q))))
+    let t = (goal.at.returns-then-a-b c).After-row_at-q in
+    passed (omega (arith, first t), omega (arith, second t)) (refused (λ n. n (omega (arith, first t, second t))))
 
 pub returns-then-q-gt1000000 : goal.returns-then-q-gt1000000
 returns-then-q-gt1000000 c =
-    passed (omega (arith, first (goal.at.returns-then-q-gt1000000 c).After-row_at-q), omega (arith, second (goal.at.returns-then-q-gt1000000 c).After-row_at-q))
-    (passed (λ e. omega (arith, first (goal.at.returns-then-q-gt1000000 c).After-row_at-q, second (goal.at.returns-then-q-gt1000000 c).After-row_at-q, e)) (refused (λ n. omega (arith, long (goal.at.returns-then-q-gt1000000 c).After-row_at-q))))
+    let t = (goal.at.returns-then-q-gt1000000 c).After-row_at-q in
+    passed (omega (arith, first t), omega (arith, second t))
+    (passed (λ e. omega (arith, first t, second t, e)) (refused (λ n. omega (arith, long t))))
 
 pub returns-then-q-ltminus1000000 : goal.returns-then-q-ltminus1000000
 returns-then-q-ltminus1000000 c =
-    passed (omega (arith, first (goal.at.returns-then-q-ltminus1000000 c).After-row_at-q), omega (arith, second (goal.at.returns-then-q-ltminus1000000 c).After-row_at-q))
-    (passed (λ e. omega (arith, first (goal.at.returns-then-q-ltminus1000000 c).After-row_at-q, second (goal.at.returns-then-q-ltminus1000000 c).After-row_at-q, e))
-    (passed (omega (arith, long (goal.at.returns-then-q-ltminus1000000 c).After-row_at-q))
-    (refused (λ w. too_low (rw (held (goal.at.returns-then-q-ltminus1000000 c).After-struct_told-1) at c.if-q-ltminus1000000.true) (w (λ e. omega arith))))))
+    let t = (goal.at.returns-then-q-ltminus1000000 c).After-row_at-q in
+    passed (omega (arith, first t), omega (arith, second t))
+    (passed (λ e. omega (arith, first t, second t, e))
+    (passed (omega (arith, long t))
+    (refused (λ w. too_low (rw (held t) at c.if-q-ltminus1000000.true) (w (λ e. omega arith))))))
 
 pub returns-then-q-gt1000000-2 : goal.returns-then-q-gt1000000-2
 returns-then-q-gt1000000-2 c =
-    passed (omega (arith, first (goal.at.returns-then-q-gt1000000-2 c).After-row_at-q), omega (arith, second (goal.at.returns-then-q-gt1000000-2 c).After-row_at-q))
-    (passed (λ e. omega (arith, first (goal.at.returns-then-q-gt1000000-2 c).After-row_at-q, second (goal.at.returns-then-q-gt1000000-2 c).After-row_at-q, e))
-    (passed (omega (arith, long (goal.at.returns-then-q-gt1000000-2 c).After-row_at-q))
-    (refused
-    (λ w. too_high (rw (held (goal.at.returns-then-q-gt1000000-2 c).After-struct_told-1) at c.if-q-gt1000000-2.true) (w (λ e. omega arith))))))
+    let t = (goal.at.returns-then-q-gt1000000-2 c).After-row_at-q in
+    passed (omega (arith, first t), omega (arith, second t))
+    (passed (λ e. omega (arith, first t, second t, e))
+    (passed (omega (arith, long t))
+    (refused (λ w. too_high (rw (held t) at c.if-q-gt1000000-2.true) (w (λ e. omega arith))))))
 
 pub returns : goal.returns
 returns c =
-    let if5-left = c.if-q-ltminus1000000.false in
-    passed (omega (arith, first (goal.at.returns c).After-row_at-q), omega (arith, second (goal.at.returns c).After-row_at-q))
-    (passed (λ e. omega (arith, first (goal.at.returns c).After-row_at-q, second (goal.at.returns c).After-row_at-q, e))
-    (passed (omega (arith, long (goal.at.returns c).After-row_at-q))
-    (passed
-    (λ _. in_range (rw (held (goal.at.returns c).After-struct_told-1) at if5-left)
-    (rw (held (goal.at.returns c).After-struct_told-1) at c.if-q-gt1000000-2.false))
+    let t = (goal.at.returns c).After-row_at-q in
+    let within = in_range (rw (held t) at c.if-q-ltminus1000000.false) (rw (held t) at c.if-q-gt1000000-2.false) in
+    passed (omega (arith, first t), omega (arith, second t))
+    (passed (λ e. omega (arith, first t, second t, e))
+    (passed (omega (arith, long t))
+    (passed (λ _. within)
     (passed (λ e. absurd (omega arith)) (passed (λ e. absurd (omega arith)) refl)))))

@@ -1,5 +1,4 @@
 -- `best` meets its contract: the way with more rows, of i and m + 1 − i.
-use Prim.Native.Nat.{◌-◌}
 use mathlib.Core.Logic.{inl, inr}
 use native.Mathlib.Omega.{arith}
 use Rattle.mesh.proofs.sweep.best.Goals as goal

@@ -1,5 +1,4 @@
 use Rattle.mesh.proofs.Sweeping.{farthest_one, farthest_keep, farthest_more}
-use Prim.Native.Nat.{◌-◌}
 use mathlib.Core.Path.{◌≡◌}
 use native.Mathlib.Omega.{arith}
 use Rattle.mesh.proofs.sweep.farthest.Goals as goal

@@ -1,5 +1,15 @@
-use Rattle.mesh.proofs.Sweeping.{sweeping_start, z_low, p_low, parent_fits, step_fits, many_fits, many_of, sweeping_next, sweeping_end}
-use Prim.Native.Nat.{◌-◌, ◌<◌}
+use Rattle.mesh.proofs.Sweeping.{
+  sweeping_start,
+  z_low,
+  p_low,
+  parent_fits,
+  step_fits,
+  many_fits,
+  many_of,
+  sweeping_next,
+  sweeping_end,
+}
+use Prim.Native.Nat.{◌<◌}
 use mathlib.Core.Path.{refl}
 use native.Mathlib.Omega.{arith}
 use Rattle.mesh.proofs.sweep.sweep.Goals.{After-wide-p, After-wide-z}

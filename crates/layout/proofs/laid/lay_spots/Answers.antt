@@ -1,0 +1,66 @@
+use Prim.Native.Nat.{◌-◌}
+use mathlib.Core.Path.{◌≡◌}
+use native.Mathlib.Omega.{arith}
+use Rattle.arrays.specs.At.{at}
+use Rattle.layout.proofs.Laying.{laid_none, laid_more, spot_small}
+use Rattle.layout.proofs.laid.lay_spots.Goals as goal
+
+pub loop-v-init : goal.loop-v-init
+loop-v-init c =
+    (omega arith, omega (arith, c.requires.spots.some), c.requires.spots, laid_none _ _ _ _ c.fill.ensures, c.requires.by_index)
+
+pub offset_bounds-spot-v : goal.offset_bounds-spot-v
+offset_bounds-spot-v c = omega (arith, c.loop-v.invariant.2.small)
+
+pub bounds-spot-v : goal.bounds-spot-v
+bounds-spot-v c = omega (arith, c.loop-v.invariant.2.small)
+
+pub offset_bounds-from-v : goal.offset_bounds-from-v
+offset_bounds-from-v c = omega (arith, c.loop-v.invariant.2.small)
+
+pub bounds-from-v : goal.bounds-from-v
+bounds-from-v c = omega (arith, c.loop-v.invariant.2.small)
+
+pub offset_bounds-spot-u : goal.offset_bounds-spot-u
+offset_bounds-spot-u c =
+    let loop-test-taken = c.loop-v-test.true in
+    let loop-inv = c.loop-v.invariant in
+    omega (arith, loop-inv.4 _ loop-inv.0 loop-test-taken, c.wide-u.ensures.0, loop-inv.2.small)
+
+pub bounds-spot-u : goal.bounds-spot-u
+bounds-spot-u c =
+    let loop-test-taken = c.loop-v-test.true in
+    let loop-inv = c.loop-v.invariant in
+    omega (arith, loop-inv.4 _ loop-inv.0 loop-test-taken, c.wide-u.ensures.0, loop-inv.2.small)
+
+pub offset_bounds-to-s : goal.offset_bounds-to-s
+offset_bounds-to-s c =
+    let wide-ensures = c.wide-s.ensures in
+    let loop-test-taken = c.loop-v-test.true in
+    let loop-inv = c.loop-v.invariant in
+    omega (arith, spot_small _ _ _ _ loop-inv.2 loop-test-taken wide-ensures.0)
+
+pub bounds-to-s : goal.bounds-to-s
+bounds-to-s c =
+    let wide-ensures = c.wide-s.ensures in
+    let loop-test-taken = c.loop-v-test.true in
+    let loop-inv = c.loop-v.invariant in
+    omega (arith, spot_small _ _ _ _ loop-inv.2 loop-test-taken wide-ensures.0)
+
+pub loop-v-preserved : goal.loop-v-preserved
+loop-v-preserved c =
+    let wide-ensures = c.wide-s.ensures in
+    let loop-test-taken = c.loop-v-test.true in
+    let h = c.loop-v.invariant in (
+      omega arith,
+      omega arith,
+      h.2,
+      laid_more _ _ _ _ _ _ _ _ h.2 h.0 loop-test-taken wide-ensures.0 (rw c.wide-u.ensures.0)
+          h.3,
+      h.4,
+    )
+
+pub returns : goal.returns
+returns c =
+    let e : c.loop-v.v ≡ c.args.n = omega arith in
+    rw e at c.loop-v.invariant.3

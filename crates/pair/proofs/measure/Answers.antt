@@ -1,0 +1,30 @@
+-- `measure` meets its contract: 13, then 15 by each of its conditions, then the path.
+use Rattle.table.specs.Refuse.{refused, passed}
+use native.Mathlib.Omega.{arith}
+use Rattle.pair.proofs.measure.Goals as goal
+
+pub returns-then-marks-n : goal.returns-then-marks-n
+returns-then-marks-n c = refused (λ h. c.if-marks-n.true (omega (arith, c.wide-n.ensures)))
+
+pub returns-then-nodes-a : goal.returns-then-nodes-a
+returns-then-nodes-a c = passed (omega (arith, c.wide-n.ensures)) (refused (λ t. omega (arith, t.first)))
+
+pub returns-then-nodes-b : goal.returns-then-nodes-b
+returns-then-nodes-b c = passed (omega (arith, c.wide-n.ensures)) (refused (λ t. omega (arith, t.second)))
+
+pub returns-then-a-b : goal.returns-then-a-b
+returns-then-a-b c =
+    let wide-ensures = c.wide-n.ensures in
+    passed (omega (arith, wide-ensures)) (refused (λ t. t.apart (omega arith)))
+
+pub show-requires : goal.show-requires
+show-requires c =
+    let pre = c.requires in
+    let e = c.wide-n.ensures.0 in
+    (pre, omega arith, record { first = omega arith; second = omega arith; apart = λ e. omega (arith, e) })
+
+pub returns : goal.returns
+returns c =
+    let wide-ensures = c.wide-n.ensures in
+    passed (omega (arith, wide-ensures))
+    (passed (record { first = omega arith; second = omega arith; apart = λ e. omega (arith, e) }) c.show.ensures)
