@@ -11,7 +11,7 @@ ghost use Rattle.window.specs.work.Best.{InLimits, BetterOf, Bettered, Stand, Be
 use pages::Sums;
 
 // The branch counts that pass.
-#[derive(Drop)]
+#[derive(Clone, Copy)]
 pub(crate) struct CountLimits {
     pub(crate) fewest: u64,
     pub(crate) most: u64,
@@ -19,7 +19,7 @@ pub(crate) struct CountLimits {
 
 // A pair, its branch count and its lifted weight; count 0 is none. hit is 1 where the first node that was looked at
 // last has a pair of that count.
-#[derive(Drop)]
+#[derive(Clone, Copy)]
 pub(crate) struct Found {
     pub(crate) low: usize,
     pub(crate) high: usize,

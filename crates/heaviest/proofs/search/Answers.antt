@@ -1,0 +1,16 @@
+-- `heaviest::search` meets its contract: the walk and the branches are the ground of the accepted net, and what the
+-- lists give of any ground they give of this one.
+use Rattle.ground.proofs.Branching.{ground}
+use Rattle.heaviest.proofs.search.Goals as goal
+
+pub heaviest_pair-requires : goal.heaviest_pair-requires
+heaviest_pair-requires c =
+    let wide-ensures = c.wide-n.ensures in
+    let grounded-ensures = c.grounded.ensures in
+    record { ground = rw wide-ensures.0 (ground grounded-ensures); most_bound = c.requires.most_bound }
+
+pub returns : goal.returns
+returns c =
+    let grounded-ensures = c.grounded.ensures in
+    let e = c.wide-n.ensures.0 in
+    rw e at (c.heaviest_pair.ensures (rw e (ground grounded-ensures)))
