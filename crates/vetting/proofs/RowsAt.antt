@@ -40,11 +40,15 @@ in_stands {e} (at {l = l} q) = (zero, rw q here)
 in_stands (past h) = let t = in_stands h in (suc t.0, there t.1)
 
 -- in a list without an entry twice it stands at one place, and a list in which each stands at one place is such
+stands_once_at : {e f : Entry} {l : List Entry} {i j : ℕ} → Distinct l → StandsAt e l i → StandsAt f l j → e ≡ f
+    → i ≡ j
+stands_once_at d here here q = refl
+stands_once_at d here (there k) q = absurd (d.0 (rw (sym q) at (stands_in k)))
+stands_once_at d (there h) here q = absurd (d.0 (rw q at (stands_in h)))
+stands_once_at d (there h) (there k) q = ap suc (stands_once_at d.1 h k q)
+
 pub stands_once : {e : Entry} {l : List Entry} {i j : ℕ} → Distinct l → StandsAt e l i → StandsAt e l j → i ≡ j
-stands_once d here here = refl
-stands_once d here (there k) = absurd (d.0 (stands_in k))
-stands_once d (there h) here = absurd (d.0 (stands_in h))
-stands_once d (there h) (there k) = ap suc (stands_once d.1 h k)
+stands_once d h k = stands_once_at d h k refl
 
 pub once_stands : (l : List Entry) → ((e : Entry) (i j : ℕ) → StandsAt e l i → StandsAt e l j → i ≡ j) → Distinct l
 once_stands [] f = tt

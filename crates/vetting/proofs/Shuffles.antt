@@ -69,6 +69,7 @@ module _ {A : Type 0} where
 
   -- what shuffling keeps
   pub shuffled_in : {l k : List A} → Shuffled l k → {x : A} → In x l → In x k
+  shuffled_in none h = elim h [ ]
   shuffled_in (more s p) (at e) = rw e (inserted_new p)
   shuffled_in (more s p) (past h) = inserted_old p (shuffled_in s h)
 

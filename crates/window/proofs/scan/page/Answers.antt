@@ -1,0 +1,72 @@
+-- `window::scan::page` walks the net, reads the branches and finds the greatest count of all pairs in the window; where
+-- there is none the page is empty, else it is the scan's with that count as its limit.
+use mathlib.Core.Path.{◌≡◌, refl}
+use mathlib.Core.Bool.{true}
+use mathlib.Core.Logic.{◌≢◌}
+use native.Mathlib.Omega.{arith}
+use mir.Syntax.{w64}
+use mir.ValLaws.{to_z-of_z}
+use Rattle.pages.specs.work.Lowered.{Raised, Capped}
+use Rattle.paths.proofs.Fresh.{fresh}
+use Rattle.window.specs.Window.{Window, window, InWindow}
+use Rattle.window.specs.work.Best.{BestOf}
+use Rattle.window.proofs.Counting.{counted, both}
+use Rattle.window.proofs.FromBest.{window_best, all_hit, list_none, list_page}
+use Rattle.window.proofs.scan.page.Goals.{After-best-b}
+use Rattle.window.proofs.scan.page.Goals as goal
+
+-- after the search: the sums are those that the arguments say, and what was found is the best pair of the window
+module _ (c : After-best-b) where
+  abbrev asked : Window
+  asked = window c.args.fewest c.args.most c.args.floor c.args.ceiling
+
+  low_sum : Raised c.args.floor c.raised.result
+  low_sum = rw (to_z-of_z w64 c.args.floor c.ranges.floor) at c.raised.ensures
+
+  high_sum : Capped c.args.ceiling c.capped.result
+  high_sum = rw (to_z-of_z w64 c.args.ceiling c.ranges.ceiling) at c.capped.ensures
+
+  n_is : c.wide-n.result ≡ c.args.nodes
+  n_is = c.wide-n.ensures.0
+
+  best_is : BestOf (InWindow c.args.s.now c.args.marks.now c.args.nodes asked) c.best-b.result
+  best_is =
+      window_best (omega arith) n_is c.grounded.ensures c.fill_long.ensures c.long.ensures.0 c.long-2.ensures.0 low_sum
+      high_sum c.best-b.ensures.0
+
+pub best-b-requires : goal.best-b-requires
+best-b-requires c =
+    let wide-ensures = c.wide-n.ensures in
+    let fill-long-ensures = c.fill_long.ensures in
+    let grounded-ensures = c.grounded.ensures in (
+      rw wide-ensures.0 (counted grounded-ensures fill-long-ensures),
+      record { flags = grounded-ensures.walked.long.1; lengths = fresh.lengths; weights = fresh.weights },
+    )
+
+pub returns-then-b-eq0 : goal.returns-then-b-eq0
+returns-then-b-eq0 c =
+    let here = (goal.at.returns-then-b-eq0 c).After-best-b in
+    list_none _ _ (asked here) c.requires.0 (best_is here) c.requires.1 (omega arith)
+
+pub firsts-requires : goal.firsts-requires
+firsts-requires c =
+    let here = (goal.at.firsts-requires c).After-best-b in
+    let grounded-ensures = c.grounded.ensures in
+    let if1-left = c.if-b-eq0.false in
+    let m : c.best-b.result.count ≢ 0 = omega (arith, if1-left) in (
+      rw (n_is here) (both grounded-ensures c.fill_long.ensures),
+      c.best-b.ensures.1,
+      all_hit (record { most = c.best-b.result.count; exact = true }) (omega arith) m c.best-b.ensures.0
+          (λ k h. h),
+    )
+
+pub returns : goal.returns
+returns c =
+    let here = (goal.at.returns c).After-best-b in
+    let wide3-ensures = c.wide.ensures in
+    let wide2-ensures = c.wide-from.ensures in
+    let if1-left = c.if-b-eq0.false in
+    let m : c.best-b.result.count ≢ 0 = omega (arith, if1-left) in
+    list_page _ _ (asked here) (record { most = c.best-b.result.count; exact = true }) (n_is here) (best_is here) m
+    c.grounded.ensures c.fill_long.ensures (low_sum here) (high_sum here) (λ k h. h)
+    refl (rw (wide2-ensures.0, wide3-ensures.0) at c.firsts.ensures)
