@@ -96,6 +96,7 @@ throughout f (x ∷ l) = f x && throughout f l
 
 pub throughout_in : {A : Type 0} (f : A → Bool) (l : List A) → T (throughout f l) → (x : A) → In x l → T (f x)
 unfolding throughout
+throughout_in f [] t x h = elim h [ ]
 throughout_in f (y ∷ l) t x (at e) = rw e (both (f y) (throughout f l) t).0
 throughout_in f (y ∷ l) t x (past h) = throughout_in f l (both (f y) (throughout f l) t).1 x h
 

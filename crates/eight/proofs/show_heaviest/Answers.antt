@@ -1,0 +1,24 @@
+-- `show_heaviest` shows a refusal as it stands, or the fields as signed numbers.
+use native.Mathlib.Omega.{arith}
+use Rattle.std.proofs.Common.{rules}
+use mir.Syntax.{w64}
+use mir.ValLaws.{to_z_pos, to_z-of_z}
+use mathlib.Core.List.{[]}
+use Rattle.eight.proofs.show_heaviest.Goals as goal
+
+pub refuse-requires : goal.refuse-requires
+refuse-requires c = rw c.in-Refused.is at c.requires
+
+pub returns-in-Refused : goal.returns-in-Refused
+returns-in-Refused c = rw c.in-Refused.is (c.refuse.ensures [])
+
+pub returns-in-Between : goal.returns-in-Between
+returns-in-Between c =
+    let weight = to_z-of_z w64 c.in-Between.weight (search rules) in
+    rw c.in-Between.is
+    (rw (
+      to_z_pos w64 c.in-Between.low (omega arith),
+      to_z_pos w64 c.in-Between.high (omega arith),
+      to_z_pos w64 c.in-Between.length (omega arith),
+      weight,
+    ) at (c.fill.ensures []))
