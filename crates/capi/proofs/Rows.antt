@@ -58,6 +58,7 @@ use Rattle.dimacs.specs.Write.{Wrote, WriteOf}
 use Rattle.dimacs.proofs.Cases.{by_reading, by_writing}
 use Rattle.eight.specs.work.Room.{
   Room,
+  WideRoom,
   AcceptRoom,
   PairRoom,
   HeaviestRoom,
@@ -78,7 +79,7 @@ nowhere = record { low = omega arith; few = omega arith }
 
 -- a refusal of 1 to 11
 told : (k r g : ℕ) → Told k r g → Room r g
-told k r g t = record { low = omega (arith, t.low); few = omega (arith, t.low, t.few) }
+told k r g t = record { low = t.low; few = omega (arith, t.low, t.few) }
 
 -- one of an operation's own, and then as the rest says
 own : {A : Type 0} (C : A → Type 0) {no : A} {Ok : Type 0} {rest : A → Type 0} → C no → ((x : A) → rest x → C x)
@@ -224,11 +225,15 @@ row_low a b wire kind count before =
     let zero : 0 < 4096 = omega arith in
     own C zero (own C zero (own C zero (own C zero (own C zero (own C zero (own C zero (λ x e. rw e tt)))))))
 
+-- a mesh's refusal that names no row
+anywhere : WideRoom 0 0
+anywhere = record { low = omega arith; few = omega arith }
+
 -- a row that is refused is one of the mesh's, each of which has 12 bytes of the table
 pub mesh_low : (s : List ℕ) (x : MeshAnswer) → length s < 9223372036854775808 → MeshOf s x → MeshRoom x
 mesh_low s x h p =
-    own C nowhere
-    (own C nowhere (own C nowhere (own C nowhere (own C nowhere (own C nowhere (by_row (by_row (after _ _ _ _)))))))) x
+    own C anywhere
+    (own C anywhere (own C anywhere (own C anywhere (own C anywhere (own C anywhere (by_row (by_row (after _ _ _ _)))))))) x
     p
   where
     C : MeshAnswer → Type 0
@@ -243,4 +248,4 @@ mesh_low s x h p =
     given u v k n (mesh.Refused why) q = absurd q
 
     after : (u v : ℕ → ℕ) (k n : ℕ) (y : MeshAnswer) → answer.MeshJoined u v k n y → MeshRoom y
-    after u v k n = own C nowhere (own C nowhere (given u v k n))
+    after u v k n = own C anywhere (own C anywhere (given u v k n))

@@ -37,7 +37,7 @@ ghost use Rattle.eight.specs.work.Room.{
   MeshRoom,
 };
 
-use crate::answer::{fill, refuse};
+use crate::answer::{fill, fill_wide, refuse};
 use accept::AcceptAnswer;
 use changes::Change;
 use convert::Conversion;
@@ -247,7 +247,7 @@ pub fn show_mesh(o: MeshAnswer, answer: &mut [i64; 8]) -> u8
     ensures { call result answer.new [] ≡ mesh_in_c o }
 {
     match o {
-        MeshAnswer::Refused(why) => refuse(why, answer),
+        MeshAnswer::Refused(why) => { fill_wide(answer, why.number, why.row, why.ring, 0, 0, 0, 0) }
         MeshAnswer::Most {
             branches,
             low,

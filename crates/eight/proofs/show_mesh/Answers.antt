@@ -5,11 +5,11 @@ use mir.ValLaws.{to_z_pos}
 use mathlib.Core.List.{[]}
 use Rattle.eight.proofs.show_mesh.Goals as goal
 
-pub refuse-requires : goal.refuse-requires
-refuse-requires c = rw c.in-Refused.is at c.requires
+pub fill_wide-requires : goal.fill_wide-requires
+fill_wide-requires c = rw c.in-Refused.is at c.requires
 
 pub returns-in-Refused : goal.returns-in-Refused
-returns-in-Refused c = rw c.in-Refused.is (c.refuse.ensures [])
+returns-in-Refused c = rw c.in-Refused.is (c.fill_wide.ensures [])
 
 pub returns-in-Most : goal.returns-in-Most
 returns-in-Most c =

@@ -28,8 +28,13 @@ use Rattle.dimacs.specs.declared.ReadAnswer.TheVariants as read
 use Rattle.dimacs.specs.declared.WriteAnswer.{WriteAnswer}
 use Rattle.dimacs.specs.declared.WriteAnswer.TheVariants as write
 
--- a row's number of 63 bits, since a mesh may have more rows than a tree, and a ring of no more than 4,096 rows
+-- a row below 4,096, and a ring of no more rows than that
 pub record Room (row ring : ℕ) : Type 0 where
+  pub low : row < 4096
+  pub few : ring ≤ 4096
+
+-- the same with a row's number of 63 bits, since a mesh may have more rows than a tree
+pub record WideRoom (row ring : ℕ) : Type 0 where
   pub low : row < 9223372036854775808
   pub few : ring ≤ 4096
 
@@ -64,7 +69,7 @@ ConversionRoom (conversion.Refused why) = Room why.row why.ring
 
 abbrev pub MeshRoom : MeshAnswer → Type 0
 MeshRoom (mesh.Most branches low high) = Unit {0}
-MeshRoom (mesh.Refused why) = Room why.row why.ring
+MeshRoom (mesh.Refused why) = WideRoom why.row why.ring
 
 -- of a page also counts of 63 bits
 abbrev pub PageRoom : Listed → Type 0

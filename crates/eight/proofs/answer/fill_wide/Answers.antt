@@ -1,8 +1,8 @@
--- `fill` writes the eight numbers as they are given.
+-- `fill_wide` writes the eight numbers as they are given.
 use native.Mathlib.Omega.{arith}
 use mir.Syntax.{w64}
 use mir.ValLaws.{to_z-of_z, to_z_pos}
-use Rattle.eight.proofs.answer.fill.Goals as goal
+use Rattle.eight.proofs.answer.fill_wide.Goals as goal
 
 pub returns : goal.returns
 returns c =
