@@ -86,15 +86,21 @@ prove_here() { # NAME
     { rt version && echo "$from" && sha256sum <"$(program_of "$1")"; } >"$root/target/$1.proved"
 }
 
-# The same in a clone that cannot be written: rt looks at a copy of its sources, begins with what it kept of the clone
-# and finds nothing to prove, or the clone is not built. $name is the script's. The copy's program is $aside.
+# The same in a clone that cannot be written: in a copy rt finds nothing to prove, or the clone is not built. $name is the
+# script's. The copy's program is $aside.
 prove_aside() { # NAME ROOM
     aside=$2/crates/$1/out/$1
-    [ -r "$(program_of "$1")" ] && mkdir -p "$2" &&
-        (cd "$root" && tar -cf - --exclude='crates/*/out' crates.txt crates) | tar -xf - -C "$2" &&
-        (cd "$2/crates/$1" && timeout 300 rt run) </dev/null >"$2/log" 2>&1 && [ -r "$aside" ] && return
+    [ -r "$(program_of "$1")" ] && copy_aside "$1" "$2" &&
+        (cd "$2/crates/$1" && timeout 120 rt run) </dev/null >"$2/log" 2>&1 && [ -r "$aside" ] && return
     echo "$me: $root is not built as it stands, and you cannot write there: let its owner run ./$name likewise" >&2
     return 1
+}
+
+# A copy of the crates, with what rt made of those that one of them is made of.
+copy_aside() { # NAME ROOM
+    mkdir -p "$2" && (cd "$root" && tar -cf - --exclude='crates/*/out' crates.txt crates) | tar -xf - -C "$2" &&
+        chmod -R u+w "$2" && for c in $(made_of "$1"); do cp -R -p "$root/crates/$c/out" "$2/crates/$c/" || return; done &&
+        chmod -R u+w "$2"
 }
 
 # Proves the library for C and Rust and writes $archive.
