@@ -1,4 +1,6 @@
 // The operation accept: 1 to 11 by tree, and how many rows of an accepted table are filler.
+#![tactic(auto)]
+
 ghost use Rattle.std.specs.Prelude.{◌*◌, ◌-◌, ◌≤◌, ◌≡◌, length};
 ghost use Rattle.table.specs.Row.{Stands, kind_at};
 ghost use Rattle.net.specs.Count.{Count};

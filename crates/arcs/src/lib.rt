@@ -2,6 +2,8 @@
 // of them. chunk.rt copies arcs of a text into arrays, where they are found again; look.rt is the one look that 27 and
 // 28 come from; one.rt and many.rt are what is done with texts that one chunk holds, and with others; lay.rt lays the
 // rows.
+#![tactic(auto)]
+
 ghost use Rattle.std.specs.Prelude.{◌≡◌, List, length};
 ghost use Rattle.roads.specs.Text.{Arc};
 ghost use Rattle.arcs.specs.Arcs.{arcs_of};

@@ -1,5 +1,7 @@
 // Fixed arrays of 4,096 places, one for each node: filled whole with one value, and the two widenings with which their
 // elements are read.
+#![tactic(auto)]
+
 ghost use Rattle.std.specs.Prelude.{◌≡◌, ◌<◌};
 ghost use Rattle.arrays.specs.work.Filled.{Filled};
 

@@ -1,4 +1,6 @@
 // The operations claim, commit and abort: what they change of the marks.
+#![tactic(auto)]
+
 ghost use Rattle.changes.specs.Change.{Commits, Aborts};
 ghost use Rattle.changes.specs.Claim.{Claims};
 

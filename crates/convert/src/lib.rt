@@ -1,5 +1,7 @@
 // The operation convert: an old set of marks, from before a mark's top bit said spent, is brought over. No number
 // changes, so that it is a test: whether every mark now reads as it did.
+#![tactic(auto)]
+
 ghost use Rattle.std.specs.Prelude.{◌≡◌, true, false, ◌≤◌};
 ghost use Rattle.convert.specs.Old.{ReadsOn};
 ghost use Rattle.convert.specs.Convert.{TooHigh, EachMark, Converting, Converts};

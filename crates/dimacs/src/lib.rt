@@ -1,5 +1,7 @@
 // Trade with the road-graph tools: a table read out of two texts of the 9th DIMACS Implementation Challenge, and
 // written as two such texts.
+#![tactic(auto)]
+
 mod header;
 mod reading;
 mod writing;

@@ -1,5 +1,7 @@
 // What an operation gave, as the eight numbers that C gets: number, row, ring, the operation's fields in order, zeros.
 // One function for each sort of answer; each returns the refusal's number, 0 where nothing is refused.
+#![tactic(auto)]
+
 mod answer;
 
 ghost use Rattle.std.specs.Prelude.{◌≡◌, List, [], ℕ};

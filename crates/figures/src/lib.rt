@@ -1,6 +1,8 @@
 // A pair's figures, its path's length and weight, from three spots and with no climb: the climbs of two nodes meet at
 // the least parent's spot among the spots behind the one and up to the other. bins.rt makes the tables by which
 // least.rt finds that in three reads, or, within a bin, by a short scan; across.rt has the figures of two spots.
+#![tactic(auto)]
+
 ghost use Rattle.std.specs.Prelude.{◌<◌};
 ghost use Rattle.table.specs.work.Lift.{sum_end};
 ghost use Rattle.figures.specs.work.Bins.{Tables};

@@ -1,5 +1,7 @@
 // The operations over a frozen table with its change set: each writes the changed table into a buffer of its own and
 // asks the operation of it. Nothing of an operation is said here a second time.
+#![tactic(auto)]
+
 mod lists;
 mod nets;
 mod runs;

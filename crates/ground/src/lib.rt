@@ -1,4 +1,6 @@
 // What a sweep over an accepted net stands on: its walk, and each node's own branch, under the marks.
+#![tactic(auto)]
+
 ghost use Rattle.net.specs.work.Net.{Net};
 ghost use Rattle.ground.specs.work.Grounded.{BranchesReadable, Branches, Grounded};
 

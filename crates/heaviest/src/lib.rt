@@ -1,5 +1,7 @@
 // The operations heaviest and heaviest_exact: of the pairs within the bound, or of exactly its length, the one of
 // greatest weight; among equals the shorter, then the earlier pair.
+#![tactic(auto)]
+
 ghost use Rattle.std.specs.Prelude.{◌<◌};
 ghost use Rattle.table.specs.Header.{bound_of};
 ghost use Rattle.net.specs.work.Net.{Net};

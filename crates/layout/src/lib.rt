@@ -2,6 +2,8 @@
 // each other: a node, then the trees that hang from it one after the other, then the rest of its spine. seats.rt gives
 // each node its spot; laid.rt lays out arrays by spot; the lists of crate parts then find the best pair, and the tables
 // of crate figures any pair's path.
+#![tactic(auto)]
+
 ghost use Rattle.std.specs.Prelude.{◌<◌};
 ghost use Rattle.reach.specs.work.Grown.{Grown};
 ghost use Rattle.net.specs.Value.{Value};

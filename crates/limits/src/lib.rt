@@ -1,9 +1,11 @@
 // The test that a length must pass: at most a limit, or exactly it. The lists and the pages call it, so that it stands
 // once.
+#![tactic(auto)]
+
 ghost use Rattle.limits.specs.work.Fits.{Fits, Decides};
 
 // The greatest length that passes, and whether it alone does.
-#[derive(Drop)]
+#[derive(Clone, Copy)]
 pub struct Limit {
     pub most: u64,
     pub exact: bool,

@@ -1,5 +1,7 @@
 // The report's lines, put into lent bytes: each function promises the text, byte for byte, and that nothing else
 // changes.
+#![tactic(auto)]
+
 mod fields;
 
 ghost use Rattle.std.specs.Prelude.{◌+◌, ◌*◌, ◌-◌, ◌≤◌, ◌++◌, length};

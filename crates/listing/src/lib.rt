@@ -1,5 +1,7 @@
 // The operations listing and listing_exact: the pairs within the bound, or of exactly its length, at or above a floor,
 // a page at a time.
+#![tactic(auto)]
+
 mod scan;
 
 ghost use Rattle.table.specs.Header.{bound_of};

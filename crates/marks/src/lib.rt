@@ -1,4 +1,6 @@
 // Marks: free, or held or spent by a run; what a marked branch weighs; and a climb's length, weight and free branches.
+#![tactic(auto)]
+
 ghost use Rattle.std.specs.Prelude.{◌≡◌, min, leb, length};
 ghost use Rattle.net.specs.work.Net.{Net};
 ghost use Rattle.net.specs.work.Rise.{WalkClimb};

@@ -1,5 +1,7 @@
 // The operation mesh: the most branches on a simple path of a clock mesh in which each branch lies on at most one ring.
 // From each node the longest path is found over a spanning tree, ring by ring, each the longer way round.
+#![tactic(auto)]
+
 mod bands;
 mod fill;
 mod hang;

@@ -36,6 +36,7 @@ abbrev pub Without : ℕ → List ℕ → Type 0
 Without y l = (m : List ℕ) × (length l ≡ suc (length m)) × ((z : ℕ) → In z l → z ≢ y → In z m)
 
 pub without : (y : ℕ) (l : List ℕ) → In y l → Without y l
+without y [] h = elim h [ ]
 without y (x ∷ l) (at e) = (l, refl, keep)
   where
     keep : (z : ℕ) → In z (x ∷ l) → z ≢ y → In z l

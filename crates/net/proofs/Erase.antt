@@ -12,6 +12,7 @@ module _ (u v : ℕ → ℕ) where
       → Simple u v P x b
   rest {x} stop d (at e) = ([], [], rw e stop, (not_nil, tt))
   rest (go {r} {c} {rs} {ns} h e w) d (at q) = (r ∷ rs, c ∷ ns, rw q (go h e w), rw q d)
+  rest stop d (past m) = absurd (not_nil m)
   rest (go h e w) d (past m) = rest w d.1 m
 
   pub erase : {P : ℕ → Type 0} {a b : ℕ} {rs ns : List ℕ} → Walk u v P a rs ns b → Simple u v P a b

@@ -29,16 +29,16 @@ module _ (u v : ℕ → ℕ) where
   last_in (go h e stop) = at refl
   last_in (go h e (go h' e' w)) = past (last_in (go h' e' w))
 
-  -- one path
-  pub unique : {k a b : ℕ} {rs ns rs' ns' : List ℕ} → Forest u v k → Walk u v (First k) a rs ns b
-      → Walk u v (First k) a rs' ns' b → Distinct (a ∷ ns) → Distinct (a ∷ ns') → (rs ≡ rs') × (ns ≡ ns')
-  unique f stop stop d d' = (refl, refl)
-  unique f stop (go h e w) d d' = absurd (d'.0 (last_in (go h e w)))
-  unique f (go h e w) stop d d' = absurd (d.0 (last_in (go h e w)))
-  unique {k} {a} {b} f (go {r = r} {c = c} {rs} {ns} h e w) (go {r = s} {c = d} {rs = rs'} {ns = ns'} h' e' w') i j =
-      pick (ℕ_discrete r s) (λ w''. unique f w w'' i.1)
+  -- one path; the ends are named apart, and equal
+  unique_to : {k a b t : ℕ} {rs ns rs' ns' : List ℕ} → Forest u v k → Walk u v (First k) a rs ns b
+      → Walk u v (First k) a rs' ns' t → b ≡ t → Distinct (a ∷ ns) → Distinct (a ∷ ns') → (rs ≡ rs') × (ns ≡ ns')
+  unique_to f stop stop q d d' = (refl, refl)
+  unique_to f stop (go h e w) q d d' = absurd (d'.0 (rw (sym q) at (last_in (go h e w))))
+  unique_to f (go h e w) stop q d d' = absurd (d.0 (rw q at (last_in (go h e w))))
+  unique_to {k} {a} {b} {t} f (go {r = r} {c = c} {rs} {ns} h e w) (go {r = s} {c = d} {rs = rs'} {ns = ns'} h' e' w') q i j =
+      pick (ℕ_discrete r s) (λ w''. unique_to f w w'' q i.1)
     where
-      pick : Dec (r ≡ s) → (Walk u v (First k) c rs' ns' b → Distinct (c ∷ ns') → (rs ≡ rs') × (ns ≡ ns'))
+      pick : Dec (r ≡ s) → (Walk u v (First k) c rs' ns' t → Distinct (c ∷ ns') → (rs ≡ rs') × (ns ≡ ns'))
           → (◌≡◌ {A = List ℕ} (r ∷ rs) (s ∷ rs')) × (◌≡◌ {A = List ℕ} (c ∷ ns) (d ∷ ns'))
       pick (yes z) ih =
           let m : c ≡ d = other u v e (rw z e') in
@@ -46,7 +46,12 @@ module _ (u v : ℕ → ℕ) where
           (cc, cc)
       pick (no n) ih =
           let x : Joined u v (But (First k) r) c b = (_, _, avoid (ends_left u v e) i.0 w) in
-          let y : Joined u v (But (First k) r) d b = (_, _, avoid (ends_left u v e) j.0 w') in
+          let y : Joined u v (But (First k) r) d b = (_, _, rw (sym q) at (avoid (ends_left u v e) j.0 w')) in
           let o : Closes u v k = detour u v h e
           (joined_trans u v x (joined_sym u v (joined_step u v (h', λ q. n (sym q)) e' y))) in
           absurd (f o.0 o.1 o.2)
+
+  -- one path
+  pub unique : {k a b : ℕ} {rs ns rs' ns' : List ℕ} → Forest u v k → Walk u v (First k) a rs ns b
+      → Walk u v (First k) a rs' ns' b → Distinct (a ∷ ns) → Distinct (a ∷ ns') → (rs ≡ rs') × (ns ≡ ns')
+  unique f w w' d d' = unique_to f w w' refl d d'

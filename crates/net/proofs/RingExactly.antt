@@ -37,12 +37,14 @@ module _ (u v : ℕ → ℕ) where
   long stop n = absurd (n refl)
   long (go h e w) n = omega arith
 
-  around : {k a : ℕ} {rs ns : List ℕ} → Walk u v (First k) a rs ns a → Distinct rs → 2 ≤ length rs → Closes u v k
-  around stop d t = absurd (not-suc-le-zero t)
-  around (go h e w) d t = detour u v h e (_, _, fresh w d.0)
+  -- the ends are named apart, and equal
+  around : {k a b : ℕ} {rs ns : List ℕ} → Walk u v (First k) a rs ns b → a ≡ b → Distinct rs → 2 ≤ length rs
+      → Closes u v k
+  around stop q d t = absurd (not-suc-le-zero t)
+  around (go h e w) q d t = detour u v h e (_, _, rw (sym q) at (fresh w d.0))
 
   pub ring_closes : {k : ℕ} → Ring u v k → Closes u v k
-  ring_closes o = around o.closed o.rows_once o.two
+  ring_closes o = around o.closed refl o.rows_once o.two
 
   -- a simple path between the ends of row r along the rows before it, and the row
   pub path_ring : {r : ℕ} {rs ns : List ℕ} → u r ≢ v r → Walk u v (First r) (u r) rs ns (v r) → Distinct (u r ∷ ns)

@@ -91,13 +91,13 @@ module _ (u v : ℕ → ℕ) where
           pick (inl o) (inr s) = rw o.2 at s.1
           pick (inr o) s = up o.0 o.2 w
 
-      above_in : {a b x : ℕ} {rs ns : List ℕ} → Walk u v (But (First k) (row t)) a rs ns b → Above par t a
+      above_in : {x a b : ℕ} {rs ns : List ℕ} → Walk u v (But (First k) (row t)) a rs ns b → Above par t a
           → In x (a ∷ ns) → Above par t x
       above_in w h (at e) = rw e h
       above_in stop h (past m) = absurd (not_nil m)
       above_in (go p e w) h (past m) = above_in w (above_row p e h) m
 
-      in_above : {a b x : ℕ} {rs ns : List ℕ} → Walk u v (But (First k) (row t)) a rs ns b → In x (a ∷ ns)
+      in_above : {x a b : ℕ} {rs ns : List ℕ} → Walk u v (But (First k) (row t)) a rs ns b → In x (a ∷ ns)
           → Above par t x → Above par t a
       in_above w (at e) h = rw (sym e) h
       in_above stop (past m) h = absurd (not_nil m)

@@ -18,14 +18,17 @@ use Rattle.arrays.proofs.Members.{not_nil}
 use Rattle.net.proofs.Counts.{count_below}
 
 module _ {u v : ℕ → ℕ} {k n : ℕ} (fit : (r : ℕ) → r < k → (u r < n) × (v r < n)) where
-  nodes_fit : {x y : ℕ} {rs ns : List ℕ} → x < n → Walk u v (First k) x rs ns y → (z : ℕ) → In z (x ∷ ns) → z < n
-  nodes_fit b w z (at e) = rw e b
-  nodes_fit b stop z (past i) = absurd (not_nil i)
-  nodes_fit b (go {r} {c = c} h e w) z (past i) = nodes_fit (side e) w z i
+  node_fits : (z : ℕ) {x y : ℕ} {rs ns : List ℕ} → x < n → Walk u v (First k) x rs ns y → In z (x ∷ ns) → z < n
+  node_fits z b w (at e) = rw e b
+  node_fits z b stop (past i) = absurd (not_nil i)
+  node_fits z b (go {r} {c = c} h e w) (past i) = node_fits z (side e) w i
     where
       side : {a : ℕ} → Ends u v r a c → c < n
       side (inl q) = rw q.1 at (fit r h).1
       side (inr q) = rw q.0 at (fit r h).0
+
+  nodes_fit : {x y : ℕ} {rs ns : List ℕ} → x < n → Walk u v (First k) x rs ns y → (z : ℕ) → In z (x ∷ ns) → z < n
+  nodes_fit b w z i = node_fits z b w i
 
   same_many : {x y : ℕ} {rs ns : List ℕ} → Walk u v (First k) x rs ns y → length rs ≡ length ns
   same_many stop = refl

@@ -1,4 +1,6 @@
 // Numbers of several bytes, lowest first, in lent bytes: read, and put.
+#![tactic(auto)]
+
 ghost use Rattle.std.specs.Prelude.{◌+◌, ◌*◌, ◌≤◌, ◌<◌, ◌≡◌, length};
 ghost use Rattle.std.proofs.lemmas.List.Edits.{sets};
 ghost use Rattle.table.specs.Bytes.{u16_at, u32_at};

@@ -104,7 +104,7 @@ entries_join s i (suc j) k =
 -- from row i on, after what stands before them
 from_row : (front : List ℕ) (l : List Entry) (rest : List ℕ) (i : ℕ) → length front ≡ 16 * i
     → ((e : Entry) → In e l → RowFits e) → entries (front ++ (rows l ++ rest)) i (length l) ≡ l
-unfolding rows entries
+unfolding rows entries row
 from_row front [] rest i h fits = refl
 from_row front (e ∷ l) rest i h fits =
     let a : front ++ ((row e ++ rows l) ++ rest) ≡ front ++ (row e ++ (rows l ++ rest)) = ap

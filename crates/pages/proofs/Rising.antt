@@ -23,6 +23,7 @@ rising_left [] m r = none
 rising_left (x ∷ l) m r = more (λ y h. rising_head r y (in_left m h)) (rising_left l m (rising_tail r))
 
 pub rising_across : {x y : Entry} (l m : List Entry) → Rising (l ++ m) → In x l → In y m → Before x y
+rising_across [] m r h k = elim h [ ]
 rising_across (z ∷ l) m r (at e) k = rw e (rising_head r _ (in_right l k))
 rising_across (z ∷ l) m r (past h) k = rising_across l m (rising_tail r) h k
 
@@ -75,6 +76,7 @@ before_other e f (second a b) p q = omega arith
 
 pub rising_pair : {l : List Entry} → Rising l → (e f : Entry) → In e l → In f l → e.low ≡ f.low → e.high ≡ f.high
     → e ≡ f
+rising_pair none e f h k p q = elim h [ ]
 rising_pair (more b r) e f (at u) (at v) p q = u ∙ sym v
 rising_pair (more b r) e f (at u) (past k) p q = absurd (before_other e f (rw (← u) at (b f k)) p q)
 rising_pair (more b r) e f (past h) (at v) p q = absurd (before_other f e (rw (← v) at (b e h)) (sym p) (sym q))

@@ -1,6 +1,8 @@
 // Pages of a listing: rows of 16 bytes in lent memory, filled in pair order, one first node at a time. Knows no tree:
 // the keys, the lengths and the lifted weights of a node's paths come in three lent arrays. A key is what the limit is
 // for: a listing that goes by the length lends one array twice.
+#![tactic(auto)]
+
 ghost use Rattle.std.specs.Prelude.{◌≡◌, ◌+◌, ◌*◌, ◌≤◌, ◌<◌, length};
 ghost use Rattle.std.proofs.lemmas.List.Edits.{sets};
 ghost use Rattle.std.specs.Int.{w64};
@@ -21,14 +23,14 @@ const SIGNED_LIFT: i64 = SUM_LIFT as i64;
 const LEAST: i64 = -SIGNED_LIFT;
 
 // The lifted weights that pass: from floor on, below end.
-#[derive(Drop)]
+#[derive(Clone, Copy)]
 pub struct Sums {
     pub floor: u64,
     pub end: u64,
 }
 
 // The rows written and the rows left over.
-#[derive(Drop)]
+#[derive(Clone, Copy)]
 pub struct Count {
     pub given: usize,
     pub left: usize,

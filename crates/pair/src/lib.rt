@@ -1,5 +1,7 @@
 // The operation pair: the path between two nodes, its length, its weight under the marks, and the spines that it
 // touches.
+#![tactic(auto)]
+
 ghost use Rattle.std.specs.Prelude.{◌≡◌, ◌-◌, length};
 ghost use Rattle.net.specs.work.Net.{Net};
 ghost use Rattle.net.specs.Net.{TwoNodes};

@@ -2,6 +2,8 @@
 // the trees that hang from it one after the other, then the rest of its spine. items.rt: the items of a spine, and
 // where a part of it is cut; keyed.rt: the lists and keys of one item; spine.rt: a spine and the trees that hang from
 // it, which call each other.
+#![tactic(auto)]
+
 mod items;
 mod keyed;
 mod spine;

@@ -1,5 +1,7 @@
 // The lengths and the lifted weights of the paths from one node to every node: one climb from it to node 0, then one
 // sweep over the order of the walk, each node's value from its parent's.
+#![tactic(auto)]
+
 ghost use Rattle.std.specs.Prelude.{◌≤◌, ◌≡◌, length};
 ghost use Rattle.paths.specs.work.Ground.{Ground};
 ghost use Rattle.paths.specs.work.Paths.{Paths, Begun, ArraysLent};

@@ -1,5 +1,7 @@
 // The walk from a node by a queue, over chains of half-branches: 2r and 2r + 1 are row r, left by its first end and by
 // its second.
+#![tactic(auto)]
+
 ghost use Rattle.std.specs.Prelude.{◌≡◌, ◌+◌, ◌*◌, ◌/◌, ◌<◌};
 ghost use Rattle.arrays.specs.At.{at};
 ghost use Rattle.table.specs.Row.{Stands};

@@ -1,6 +1,8 @@
 // The report of a table, all branches free, in pieces: the net, its heaviest run, every pair that weighs as much, and
 // their number; of a refusal its one line. Each piece is put into lent bytes, and each is proved to be what the report
 // has there, byte for byte (specs/Report, `Comes` of specs/Pieces). Nothing here writes to the system.
+#![tactic(auto)]
+
 mod begun;
 mod listed;
 

@@ -1,5 +1,7 @@
 // The first row whose ends earlier rows already join, by union by rank: each node climbs to a root, joined nodes to the
 // same, and a row links two roots.
+#![tactic(auto)]
+
 ghost use Rattle.std.specs.Prelude.{◌<◌};
 ghost use Rattle.net.specs.Net.{first_end, second_end};
 ghost use Rattle.net.specs.work.Rows.{Readable};

@@ -101,6 +101,7 @@ module _ {top low n : ℕ} where
 
   -- the nodes of every arc that is said are from 1 to n, and its number has 32 bits
   pub lines_fit : {s : List ℕ} {l : List Arc} {e : Arc} → top < 4294967296 → Lines top low n s l → In e l → ArcFits n e
+  lines_fit small done i = elim i [ ]
   lines_fit small (text.Lines.comment c x) i = lines_fit small x i
   lines_fit small (arc a x) (members.In.at p) = rw p (arc_fits small a)
   lines_fit small (arc a x) (members.In.past i) = lines_fit small x i

@@ -1,6 +1,8 @@
 // Road-graph texts: what two of them say together, one with lengths and one with weights, and the way from arc to arc
 // of one. A text is read where it stands, from a place on: number.rt reads a number, line.rt a line, whole.rt whole
 // texts. Everything public here is between crates.
+#![tactic(auto)]
+
 mod line;
 mod number;
 mod whole;

@@ -1,6 +1,8 @@
 // The branch table, versions 1 and 2: bytes to header and rows. Refusals 1 to 10, 22 and 23, the part of a row, a
 // decoded row and its lifted weight, and the reader that holds the table. Every public function takes any bytes and
 // any number and asks nothing of its caller.
+#![tactic(auto)]
+
 ghost use Rattle.std.specs.Prelude.{◌≡◌, true, false, ◌+◌, ◌*◌, ◌≤◌, ◌<◌, length};
 ghost use Rattle.std.specs.Int.{w32};
 ghost use Rattle.std.proofs.Common.{to_z};

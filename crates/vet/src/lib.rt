@@ -1,5 +1,7 @@
 // The operation vet: whether a list of rows is the listing's, in any order; if not, the first row at fault or the first
 // pair missing.
+#![tactic(auto)]
+
 ghost use Rattle.std.specs.Prelude.{◌≡◌, ◌/◌, ◌%◌, ◌≤◌, length};
 ghost use Rattle.table.specs.Header.{bound_of};
 ghost use Rattle.net.specs.work.Net.{Net};

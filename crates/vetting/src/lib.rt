@@ -2,6 +2,8 @@
 // block after block of lines, two first nodes to a line (blocks.rt): which pairs of the block the rows name
 // (repeats.rt, over lines.rt and bits.rt), and which that belong none does (lacks.rt). So the set of bits is for one
 // block's pairs, not for all.
+#![tactic(auto)]
+
 mod bits;
 mod blocks;
 mod lacks;

@@ -1,6 +1,8 @@
 // The operations window and window_list: of the pairs whose branch count lies between two positive limits and whose
 // weight lies between two sums, the one with the most branches, among equals the earlier; and all that have as many, a
 // page at a time. Wire lengths and the bound play no part.
+#![tactic(auto)]
+
 mod best;
 mod scan;
 

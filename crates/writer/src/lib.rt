@@ -1,5 +1,7 @@
 // The operation write row: two nodes, length, kind and count as one row of version 2, into 12 lent bytes. Filler is no
 // longer written. It takes any numbers and any lent bytes, and asks nothing of its caller.
+#![tactic(auto)]
+
 ghost use Rattle.std.specs.Prelude.{◌≡◌, length};
 ghost use Rattle.limits.specs.work.Fits.{Decides};
 ghost use Rattle.writer.specs.WriteRow.{Filler, cell_row, WritesRow};

@@ -2,6 +2,8 @@
 // nodes and one of its two numbers, which stands at `place` in the row: 4 is the length, 8 the weight. Of that number's
 // 32 bits those up to `top` are the number itself, those beyond it a negative one. Everything public here is between
 // crates.
+#![tactic(auto)]
+
 mod put;
 mod size;
 

@@ -1,0 +1,32 @@
+-- `changes::settle::settle_net` meets its contract: 13 and 14 as the tests have it, and then as `replace` says.
+use Rattle.table.specs.Refuse.{refused, passed}
+use native.Mathlib.Omega.{arith}
+use Rattle.changes.proofs.settle.settle_net.Goals as goal
+
+pub returns-then-marks-wide : goal.returns-then-marks-wide
+returns-then-marks-wide c = refused (λ e. omega (arith, c.if-marks-wide.true, c.wide.ensures.0, c.requires))
+
+pub returns-then-not_a_run : goal.returns-then-not_a_run
+returns-then-not_a_run c =
+    let wide-ensures = c.wide.ensures in
+    passed (omega (arith, c.if-marks-wide.false, wide-ensures.0))
+    (refused (c.not_a_run.ensures.0 c.if-not_a_run.true))
+
+pub replace-k-requires : goal.replace-k-requires
+replace-k-requires c =
+    let if1-left = c.if-marks-wide.false in
+    let wide-ensures = c.wide.ensures in
+    let pre = c.requires in
+    omega (arith, if1-left, wide-ensures.0, pre)
+
+pub shape_of-marks : goal.shape_of-marks
+shape_of-marks c = c.replace-k.ensures.same_many
+
+pub returns : goal.returns
+returns c =
+    let if2-left = c.if-not_a_run.false in
+    let not-a-run-ensures = c.not_a_run.ensures in
+    let if1-left = c.if-marks-wide.false in
+    let wide-ensures = c.wide.ensures in
+    passed (omega (arith, if1-left, wide-ensures.0))
+    (passed (not-a-run-ensures.1 if2-left) c.replace-k.ensures)

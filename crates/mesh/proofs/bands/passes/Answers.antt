@@ -1,0 +1,82 @@
+use Rattle.mesh.proofs.Climbs.{passes_start, passes_skip, extra_not, round_of}
+use borrow.Author.Tests.{not-true, not-false}
+use mathlib.Core.Bool.{true≢false, false≢true}
+use Prim.Native.Nat.{◌-◌}
+use mathlib.Core.Path.{◌≡◌}
+use native.Mathlib.Omega.{arith}
+use Rattle.mesh.proofs.bands.passes.Goals as goal
+
+pub loop-r-init : goal.loop-r-init
+loop-r-init c = (omega arith, λ n a order h. passes_start h.few c.fill.ensures)
+
+pub first_end-p-requires : goal.first_end-p-requires
+first_end-p-requires c = c.requires.0.stands _ c.loop-r-test.true
+
+pub second_end-q-requires : goal.second_end-q-requires
+second_end-q-requires c =
+    let pre = c.requires in
+    pre.0.stands _ c.loop-r-test.true
+
+pub offset_bounds-par-p : goal.offset_bounds-par-p
+offset_bounds-par-p c =
+    let pre = c.requires in
+    omega (arith, c.first_end-p.ensures, pre.0.rows.first _ c.loop-r-test.true)
+
+pub bounds-par-p : goal.bounds-par-p
+bounds-par-p c =
+    let pre = c.requires in
+    omega (arith, c.first_end-p.ensures, pre.0.rows.first _ c.loop-r-test.true)
+
+pub offset_bounds-par-q : goal.offset_bounds-par-q
+offset_bounds-par-q c =
+    let loop-test-taken = c.loop-r-test.true in
+    let pre = c.requires in
+    omega (arith, c.second_end-q.ensures, pre.0.rows.second _ loop-test-taken)
+
+pub bounds-par-q : goal.bounds-par-q
+bounds-par-q c =
+    let loop-test-taken = c.loop-r-test.true in
+    let pre = c.requires in
+    omega (arith, c.second_end-q.ensures, pre.0.rows.second _ loop-test-taken)
+
+pub round-requires : goal.round-requires
+round-requires c =
+    let wide2-ensures = c.wide-in-loop-r.ensures in
+    let wide-ensures = c.wide.ensures in
+    let second-end-ensures = c.second_end-q.ensures in
+    let first-end-ensures = c.first_end-p.ensures in
+    let loop-test-taken = c.loop-r-test.true in
+    let loop-inv = c.loop-r.invariant in
+    let t = c.requires.1 in
+    record {
+      u = _;
+      v = _;
+      k = _;
+      n = _;
+      a = _;
+      order = _;
+      r = _;
+      round = round_of t.hung loop-test-taken first-end-ensures second-end-ensures wide-ensures.0
+          wide2-ensures.0 (c.extra.ensures.0 c.if-extra.true)
+          (loop-inv.1 t.n t.a t.order t.hung);
+    }
+
+pub loop-r-preserved : goal.loop-r-preserved
+loop-r-preserved c =
+    let wide-ensures = c.wide.ensures in
+    let second-end-ensures = c.second_end-q.ensures in
+    let first-end-ensures = c.first_end-p.ensures in
+    let loop-inv = c.loop-r.invariant in (
+      omega arith,
+      λ n a order h. passes_skip
+          (extra_not first-end-ensures second-end-ensures wide-ensures.0 c.wide-in-loop-r.ensures.0
+          (c.extra.ensures.1 c.if-extra.false))
+          (loop-inv.1 n a order h),
+    )
+
+pub returns : goal.returns
+returns c =
+    let args = c.args in
+    λ n a order h.
+    let e : c.loop-r.r ≡ args.rows = omega arith in
+    (λ _. rw e at (c.loop-r.invariant.1 n a order h), λ t. absurd (true≢false t))

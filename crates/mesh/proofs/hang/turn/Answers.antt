@@ -1,0 +1,137 @@
+use Rattle.mesh.proofs.Turning.{climbing_start, climbing_ready, climbing_next, turning_start, y_fits, turning_skip, turning_ready, turning_next, turning_end}
+use Rattle.mesh.proofs.Growing.{room, grown_start, c_fits}
+use Rattle.arrays.specs.At.{at}
+use Prim.Native.Nat.{◌-◌, ◌<◌}
+use mathlib.Core.Path.{ap}
+use native.Mathlib.Omega.{arith}
+use Rattle.mesh.proofs.hang.turn.Goals.{After-wide-y}
+use Rattle.mesh.proofs.hang.turn.Goals as goal
+
+y_in : (c : After-wide-y) → c.wide-y.result < 256
+y_in c =
+    let h = c.requires.0.hung in
+    let s = c.loop-i.invariant _ _ _ _ h in
+    omega (arith, c.wide-y.ensures.0, y_fits h s c.loop-i-test.true, h.few)
+
+pub start-requires : goal.start-requires
+start-requires c = omega (arith, c.requires.1, c.requires.0.hung.few)
+
+pub loop-x-init : goal.loop-x-init
+loop-x-init c =
+    let pre = c.requires in
+    λ u v k place0 h. climbing_start h (grown_start pre.0.hung.few pre.1 c.start.ensures)
+
+pub offset_bounds-par0-x : goal.offset_bounds-par0-x
+offset_bounds-par0-x c =
+    let h = c.requires.0.hung in
+    omega (arith, (c.loop-x.invariant _ _ _ _ h).here.0, h.few)
+
+pub bounds-par0-x : goal.bounds-par0-x
+bounds-par0-x c =
+    let h = c.requires.0.hung in
+    omega (arith, (c.loop-x.invariant _ _ _ _ h).here.0, h.few)
+
+pub hang-requires : goal.hang-requires
+hang-requires c =
+    let wide-ensures = c.wide-p.ensures in
+    let loop-test-taken = c.loop-x-test.true in
+    let loop-inv = c.loop-x.invariant in
+    let h = c.requires.0.hung in
+    let t = climbing_ready h (loop-inv _ _ _ _ h) loop-test-taken in
+    (room t, omega (arith, wide-ensures.0, (c_fits t).0), (c_fits t).1)
+
+pub overflow_add-m : goal.overflow_add-m
+overflow_add-m c =
+    let loop-test-taken = c.loop-x-test.true in
+    let loop-inv = c.loop-x.invariant in
+    let h = c.requires.0.hung in
+    omega (arith, room (climbing_ready h (loop-inv _ _ _ _ h) loop-test-taken))
+
+pub loop-x-smaller : goal.loop-x-smaller
+loop-x-smaller c =
+    let loop-test-taken = c.loop-x-test.true in
+    let loop-inv = c.loop-x.invariant in
+    let h = c.requires.0.hung in
+    omega (arith, room (climbing_ready h (loop-inv _ _ _ _ h) loop-test-taken))
+
+pub loop-x-preserved : goal.loop-x-preserved
+loop-x-preserved c =
+    let wide-ensures = c.wide-p.ensures in
+    let loop-test-taken = c.loop-x-test.true in
+    let loop-inv = c.loop-x.invariant in
+    λ u v k place0 h. rw (c.hang.ensures.0, c.hang.ensures.1, c.hang.ensures.2, wide-ensures.0)
+    (climbing_next h (loop-inv u v k place0 h) loop-test-taken)
+
+pub loop-i-init : goal.loop-i-init
+loop-i-init c = λ u v k place0 h. turning_start h (c.loop-x.invariant u v k place0 h) (λ q. q c.loop-x-test.false)
+
+pub offset_bounds-order0-i : goal.offset_bounds-order0-i
+offset_bounds-order0-i c = omega (arith, c.requires.0.hung.few)
+
+pub bounds-order0-i : goal.bounds-order0-i
+bounds-order0-i c =
+    let pre = c.requires in
+    omega (arith, pre.0.hung.few)
+
+pub offset_bounds-place-y : goal.offset_bounds-place-y
+offset_bounds-place-y c = omega (arith, y_in c)
+
+pub bounds-place-y : goal.bounds-place-y
+bounds-place-y c = omega (arith, y_in (goal.at.bounds-place-y c).After-wide-y)
+
+pub offset_bounds-par0-y : goal.offset_bounds-par0-y
+offset_bounds-par0-y c = omega (arith, y_in (goal.at.offset_bounds-par0-y c).After-wide-y)
+
+pub bounds-par0-y : goal.bounds-par0-y
+bounds-par0-y c = omega (arith, y_in (goal.at.bounds-par0-y c).After-wide-y)
+
+pub hang-requires-then-place-y-eq256 : goal.hang-requires-then-place-y-eq256
+hang-requires-then-place-y-eq256 c =
+    let wide3-ensures = c.wide-p-then-place-y-eq256.ensures in
+    let if1-taken = c.if-place-y-eq256.true in
+    let wide2-ensures = c.wide-y.ensures in
+    let loop2-test-taken = c.loop-i-test.true in
+    let loop2-inv = c.loop-i.invariant in
+    let args = c.args in
+    let h = c.requires.0.hung in
+    let s = loop2-inv _ _ _ _ h in
+    let t = turning_ready h s loop2-test-taken (rw wide2-ensures.0 at if1-taken) in (
+      room t,
+      omega (arith, wide2-ensures.0, (c_fits t).0),
+      omega (arith, wide3-ensures.0, ap (λ y. at args.par0.now y) wide2-ensures.0, (c_fits t).1),
+    )
+
+pub overflow_add-m-then-place-y-eq256 : goal.overflow_add-m-then-place-y-eq256
+overflow_add-m-then-place-y-eq256 c =
+    let if1-taken = c.if-place-y-eq256.true in
+    let wide2-ensures = c.wide-y.ensures in
+    let loop2-test-taken = c.loop-i-test.true in
+    let loop2-inv = c.loop-i.invariant in
+    let h = c.requires.0.hung in
+    let s = loop2-inv _ _ _ _ h in
+    omega (arith, room (turning_ready h s loop2-test-taken (rw wide2-ensures.0 at if1-taken)))
+
+pub loop-i-preserved-then-place-y-eq256 : goal.loop-i-preserved-then-place-y-eq256
+loop-i-preserved-then-place-y-eq256 c =
+    let wide3-ensures = c.wide-p-then-place-y-eq256.ensures in
+    let if1-taken = c.if-place-y-eq256.true in
+    let wide2-ensures = c.wide-y.ensures in
+    let loop2-test-taken = c.loop-i-test.true in
+    let loop2-inv = c.loop-i.invariant in
+    λ u v k place0 h. rw (
+      c.hang-then-place-y-eq256.ensures.0,
+      c.hang-then-place-y-eq256.ensures.1,
+      c.hang-then-place-y-eq256.ensures.2,
+      wide3-ensures.0,
+      wide2-ensures.0,
+    ) (turning_next h (loop2-inv u v k place0 h) loop2-test-taken (rw wide2-ensures.0 at if1-taken))
+
+pub loop-i-preserved : goal.loop-i-preserved
+loop-i-preserved c =
+    let loop2-test-taken = c.loop-i-test.true in
+    let loop2-inv = c.loop-i.invariant in
+    λ u v k place0 h. turning_skip h (loop2-inv u v k place0 h) loop2-test-taken
+    (rw c.wide-y.ensures.0 at c.if-place-y-eq256.false)
+
+pub returns : goal.returns
+returns c = λ u v k place0 h. turning_end h (c.loop-i.invariant u v k place0 h) (λ q. omega arith)

@@ -1,0 +1,7 @@
+-- `first_end` meets its contract: the row that is read is the net's.
+use mathlib.Core.Path.{◌∙◌}
+use Rattle.net.proofs.Net.{reads_first}
+use Rattle.net.proofs.first_end.Goals as goal
+
+pub returns : goal.returns
+returns c = c.wide.ensures.0 ∙ reads_first c.requires c.row_at-q.ensures

@@ -1,0 +1,46 @@
+use Prim.Native.Nat.{◌-◌}
+use mathlib.Core.Path.{◌≡◌, refl}
+use mathlib.Core.Logic.{⊎_elim}
+use native.Mathlib.Omega.{arith}
+use Rattle.pages.proofs.Scan.{seconds_none, seconds_add, seconds_skip}
+use Rattle.pages.proofs.seconds.Goals.{then-passes, else-passes}
+use Rattle.pages.proofs.seconds.Goals as goal
+
+pub loop-v-init : goal.loop-v-init
+loop-v-init c = (seconds_none, c.requires, omega arith, omega arith)
+
+pub add-k-requires : goal.add-k-requires
+add-k-requires c =
+    let loop-test-taken = c.loop-v-test.true in
+    let h = c.loop-v.invariant in (
+      omega (arith, h.0.grown.same),
+      omega (arith, h.0.grown.same),
+      h.1.light _ loop-test-taken,
+      omega (arith, h.0.few),
+    )
+
+pub loop-v-preserved : goal.loop-v-preserved
+loop-v-preserved c =
+    let passes-ensures = c.passes.ensures in
+    let h = c.loop-v.invariant in (
+      elim c.if-passes.branch [
+        then-passes w ↦
+            rw (w.out-is, w.k-is)
+            (seconds_add _ h.0 _ _ refl refl _ refl h.2 (passes-ensures.holds w.if-passes.true) w.add.ensures)
+        | else-passes w ↦
+            rw (w.out-is, w.k-is) (seconds_skip _ h.0 _ _ refl refl (passes-ensures.fails w.if-passes.false))
+      ],
+      h.1,
+      omega arith,
+      omega arith,
+    )
+
+pub shape_of-out : goal.shape_of-out
+shape_of-out c = c.loop-v.invariant.0.grown.same
+
+pub returns : goal.returns
+returns c =
+    let args = c.args in
+    let h = c.loop-v.invariant in
+    let e : c.loop-v.v ≡ args.n = omega arith in
+    rw e at h.0

@@ -1,0 +1,49 @@
+use Prim.Native.Nat.{◌≤◌}
+use mathlib.Core.Path.{refl}
+use native.Mathlib.Omega.{arith}
+use Rattle.arrays.specs.At.{at}
+use Rattle.paths.proofs.Climbs.{climbing_start, climbing_step, climbing_end, climb_node, climb_fits, climb_less}
+use Rattle.paths.proofs.climb.Goals.{In-loop-x}
+use Rattle.paths.proofs.climb.Goals as goal
+
+sums_fit : (c : In-loop-x)
+    → (c.loop-x.l ≤ 4096000000)
+    × (at c.args.bl.now c.loop-x.x ≤ 1000000)
+    × (1000000 ≤ c.loop-x.w)
+    × (c.loop-x.w ≤ 17179869184)
+    × (at c.args.bw.now c.loop-x.x ≤ 2000000)
+sums_fit c = climb_fits c.loop-x.invariant.0 c.loop-x.invariant.1 c.loop-x-test.true
+
+pub clear-requires : goal.clear-requires
+clear-requires c = (c.requires.0.ground.grown.some.1, c.requires.1)
+
+pub loop-x-init : goal.loop-x-init
+loop-x-init c =
+    let pre = c.requires in
+    let h = climbing_start c.clear.ensures in
+    (h, pre.0, climb_node h pre.0)
+
+pub overflow_add-l : goal.overflow_add-l
+overflow_add-l c = let h = sums_fit (goal.at.overflow_add-l c).After-way_told-in-loop-x-1 in omega (arith, h.0, h.1)
+
+pub overflow_add-w : goal.overflow_add-w
+overflow_add-w c = let h = sums_fit (goal.at.overflow_add-w c).After-l-1 in omega (arith, h.3, h.4)
+
+pub overflow_sub-w : goal.overflow_sub-w
+overflow_sub-w c = let h = sums_fit (goal.at.overflow_sub-w c).After-l-1 in omega (arith, h.2)
+
+pub loop-x-smaller : goal.loop-x-smaller
+loop-x-smaller c =
+    let loop-test-taken = c.loop-x-test.true in
+    let loop-inv = c.loop-x.invariant in
+    climb_less loop-inv.0 loop-inv.1 loop-test-taken c.wide-x.result c.wide-x.ensures.0
+
+pub loop-x-preserved : goal.loop-x-preserved
+loop-x-preserved c =
+    let loop-test-taken = c.loop-x-test.true in
+    let loop-inv = c.loop-x.invariant in
+    let h = climbing_step loop-inv.0 loop-test-taken _ _ _ c.wide-x.ensures.0 refl refl in
+    (h, loop-inv.1, climb_node h loop-inv.1)
+
+pub returns : goal.returns
+returns c = (climbing_end c.loop-x.invariant.0 c.loop-x-test.false, c.loop-x.invariant.0.long)

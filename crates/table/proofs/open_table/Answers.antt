@@ -1,0 +1,98 @@
+-- `table::open_table` meets its contract: at each return the tests passed are the good conditions before it, in the
+-- paper's order, and the test taken refutes the next.
+use Rattle.table.specs.Refuse.{refused, passed}
+use Rattle.table.specs.Header.{Lettered, version_of}
+use Rattle.table.specs.Opens.{opening_refusal}
+use Rattle.table.proofs.Accepted.{past_header}
+use Prim.Native.Nat.{ℕ, ◌≤◌}
+use native.Mathlib.Decide.{ℕ_discrete}
+use mathlib.Core.Path.{◌≡◌}
+use mathlib.Core.List.{List}
+use mathlib.Core.Logic.{◌⊎◌, inl, inr, ⊎_elim}
+use lib.ListN.{length}
+use native.Mathlib.Omega.{arith}
+use Rattle.table.proofs.open_table.Goals.{Else-s-ne78, Else-version-gt2}
+use Rattle.table.proofs.open_table.Goals as goal
+
+-- 1 and 2 pass
+module _ (c : Else-s-ne78) where
+  abbrev bytes : List ℕ
+  bytes = c.args.s.now
+
+  long : 12 ≤ length bytes
+  long = c.if-s-lt12.false
+
+  lettered : Lettered bytes
+  lettered = (c.if-s-ne82.false, c.if-s-ne84.false, c.if-s-ne78.false)
+
+one_or_two : {v : ℕ} → 1 ≤ v → v ≤ 2 → (v ≡ 1) ⊎ (v ≡ 2)
+one_or_two {v} h k = pick (ℕ_discrete v 1)
+  where
+    pick : Dec (v ≡ 1) → (v ≡ 1) ⊎ (v ≡ 2)
+    pick (yes e) = inl e
+    pick (no n) = inr (omega arith)
+
+-- and 3
+versioned : (c : Else-version-gt2)
+    → (version_of ((c.args.s.now)) ≡ 1) ⊎ (version_of ((c.args.s.now)) ≡ 2)
+versioned c = one_or_two (omega arith) (omega arith)
+
+pub returns-then-s-lt12 : goal.returns-then-s-lt12
+returns-then-s-lt12 c = refused (λ n. omega arith)
+
+pub returns-then-s-ne82 : goal.returns-then-s-ne82
+returns-then-s-ne82 c = passed c.if-s-lt12.false (refused (λ n. c.if-s-ne82.true n.0))
+
+pub returns-then-s-ne84 : goal.returns-then-s-ne84
+returns-then-s-ne84 c = passed c.if-s-lt12.false (refused (λ n. c.if-s-ne84.true n.1))
+
+pub returns-then-s-ne78 : goal.returns-then-s-ne78
+returns-then-s-ne78 c =
+    let if1-left = c.if-s-lt12.false in
+    passed if1-left (refused (λ n. c.if-s-ne78.true n.2))
+
+pub returns-then-version-lt1 : goal.returns-then-version-lt1
+returns-then-version-lt1 c =
+    passed (long (goal.at.returns-then-version-lt1 c).Else-s-ne78) (passed (lettered (goal.at.returns-then-version-lt1 c).Else-s-ne78) (refused (⊎_elim (λ e. omega (arith, e)) (λ e. omega (arith, e)))))
+
+pub returns-then-version-gt2 : goal.returns-then-version-gt2
+returns-then-version-gt2 c =
+    passed (long (goal.at.returns-then-version-gt2 c).Else-s-ne78) (passed (lettered (goal.at.returns-then-version-gt2 c).Else-s-ne78) (refused (⊎_elim (λ e. omega (arith, e)) (λ e. omega (arith, e)))))
+
+pub returns-then-nodes-lt1 : goal.returns-then-nodes-lt1
+returns-then-nodes-lt1 c =
+    passed (long (goal.at.returns-then-nodes-lt1 c).Else-s-ne78)
+    (passed (lettered (goal.at.returns-then-nodes-lt1 c).Else-s-ne78) (passed (versioned (goal.at.returns-then-nodes-lt1 c).Else-version-gt2) (refused (λ n. omega (arith, n.0)))))
+
+pub returns-then-nodes-gt4096 : goal.returns-then-nodes-gt4096
+returns-then-nodes-gt4096 c =
+    passed (long (goal.at.returns-then-nodes-gt4096 c).Else-s-ne78)
+    (passed (lettered (goal.at.returns-then-nodes-gt4096 c).Else-s-ne78) (passed (versioned (goal.at.returns-then-nodes-gt4096 c).Else-version-gt2) (refused (λ n. omega (arith, n.1)))))
+
+pub returns-then-s-ne0 : goal.returns-then-s-ne0
+returns-then-s-ne0 c =
+    passed (long (goal.at.returns-then-s-ne0 c).Else-s-ne78)
+    (passed (lettered (goal.at.returns-then-s-ne0 c).Else-s-ne78)
+    (passed (versioned (goal.at.returns-then-s-ne0 c).Else-version-gt2)
+    (passed (omega arith, omega arith) (refused (λ n. omega arith)))))
+
+pub returns-then-s-nodes : goal.returns-then-s-nodes
+returns-then-s-nodes c =
+    passed (long (goal.at.returns-then-s-nodes c).Else-s-ne78)
+    (passed (lettered (goal.at.returns-then-s-nodes c).Else-s-ne78)
+    (passed (versioned (goal.at.returns-then-s-nodes c).Else-version-gt2)
+    (passed (omega arith, omega arith) (passed (omega arith) (refused (λ n. omega arith))))))
+
+pub returns : goal.returns
+returns c =
+    past_header opening_refusal {s = bytes (goal.at.returns c).Else-s-ne78}
+    (record {
+      long = long (goal.at.returns c).Else-s-ne78;
+      letters = lettered (goal.at.returns c).Else-s-ne78;
+      version = versioned (goal.at.returns c).Else-version-gt2;
+      some = omega arith;
+      few = omega arith;
+      reserved = omega arith;
+      size = omega arith;
+    })
+    (cc)
