@@ -2,6 +2,7 @@
 ghost use Rattle.std.specs.Prelude.{◌+◌, ◌≤◌, ◌≡◌, IfOk, OnErr, OnOk, length, take};
 ghost use Rattle.std.specs.Io.KnownBytes.{Appends};
 ghost use Rattle.streams.specs.Front.{HasWritten};
+ghost use Rattle.printing.specs.Printed.{PrintsWith, PrintsFrontWith};
 ghost use Rattle.reporting.specs.Report.{Next};
 ghost use Rattle.reporting.specs.With.{ReportWith, WholeWith};
 
@@ -52,8 +53,8 @@ pub(crate) fn hand_over_line<W: Write>(
 ) -> io::Result<Handed>
     requires { ReportWith table.now changes.now line.now }
     ensures counted { IfOk result (λ handed. WholeWith table.now changes.now handed.place) }
-    ensures written { OnOk result (Appends (W.contents to.old) (W.contents to.new) line.now) }
-    ensures err { OnErr result (HasWritten (W.contents to.old) (W.contents to.new) line.now) }
+    ensures written { OnOk result (PrintsWith table.now changes.now (W.contents to.old) (W.contents to.new)) }
+    ensures err { OnErr result (PrintsFrontWith table.now changes.now (W.contents to.old) (W.contents to.new)) }
 {
     write_all(to, line)?;
     Ok(Handed { place: line.len() })

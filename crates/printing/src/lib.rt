@@ -4,10 +4,11 @@
 
 mod handed;
 
-ghost use Rattle.std.specs.Prelude.{◌≤◌, [], IfOk, length};
+ghost use Rattle.std.specs.Prelude.{◌≤◌, [], IfOk, OnErr, OnOk, length};
 ghost use Rattle.reporting.specs.Report.{Rest};
 ghost use Rattle.reporting.specs.With.{WholeWith};
 ghost use Rattle.reporting.specs.work.Pieces.{ReportLent};
+ghost use Rattle.printing.specs.Printed.{Prints, PrintsFront, PrintsWith, PrintsFrontWith};
 
 pub use handed::Handed;
 use handed::{hand_over, hand_over_line, nothing};
@@ -23,7 +24,9 @@ fn pieces<W: Write>(
     out: &mut [u8],
 ) -> io::Result<Handed>
     requires { ReportLent branches.now rows.old out.old }
-    ensures { IfOk result (λ handed. Rest s.now handed.place []) }
+    ensures counted { IfOk result (λ handed. Rest s.now handed.place []) }
+    ensures written { OnOk result (Prints s.now (W.contents to.old) (W.contents to.new)) }
+    ensures err { OnErr result (PrintsFront s.now (W.contents to.old) (W.contents to.new)) }
 {
     let mut p = reporting::first(s, branches, rows, out);
     let mut handed = nothing();
@@ -38,7 +41,9 @@ fn pieces<W: Write>(
 // write that fails ends it, with that error.
 pub fn print<W: Write>(to: &mut W, s: &[u8], rows: &mut [u8], out: &mut [u8]) -> io::Result<Handed>
     requires { (16 ≤ length rows.old) × (65536 ≤ length out.old) }
-    ensures { IfOk result (λ handed. Rest s.now handed.place []) }
+    ensures counted { IfOk result (λ handed. Rest s.now handed.place []) }
+    ensures written { OnOk result (Prints s.now (W.contents to.old) (W.contents to.new)) }
+    ensures err { OnErr result (PrintsFront s.now (W.contents to.old) (W.contents to.new)) }
 {
     let branches = reporting::free_branches();
     pieces(to, s, &branches, rows, out)
@@ -54,7 +59,9 @@ pub fn print_with<W: Write>(
     out: &mut [u8],
 ) -> io::Result<Handed>
     requires { (16 ≤ length rows.old) × (65536 ≤ length out.old) }
-    ensures { IfOk result (λ handed. WholeWith table.now changes.now handed.place) }
+    ensures counted { IfOk result (λ handed. WholeWith table.now changes.now handed.place) }
+    ensures written { OnOk result (PrintsWith table.now changes.now (W.contents to.old) (W.contents to.new)) }
+    ensures err { OnErr result (PrintsFrontWith table.now changes.now (W.contents to.old) (W.contents to.new)) }
 {
     let mut buffer: [u8; 49152] = [0; 49152];
     let k = changeset::write_in(table, changes, &mut buffer);
