@@ -4,17 +4,14 @@ command -v rt >/dev/null || {
     echo "${0##*/}: the Rattle kit is missing: no rt on the PATH. README.md has what is needed (Two commands)" >&2
     return 1
 }
-kit=$(dirname "$(dirname "$(rt doc)")")
-kit_tools=$kit/on/$(uname -m)/toolchain
+# On another machine than x86-64 an emulator of the system's runs what is built, where there is one.
 case $(uname -m) in
 x86_64) emulator='' cross=cc ;;
-*) emulator=$kit_tools/bin/qemu-x86_64 cross=x86_64-linux-gnu-gcc ;;
+*) emulator=qemu-x86_64 cross=x86_64-linux-gnu-gcc ;;
 esac
 
-# A program that rt built: target/bin/NAME.
-run_proved() {
-    ${emulator:+"$emulator"} "$kit_tools/lib/ld-linux-x86-64.so.2" --library-path "$kit_tools/lib" "$@"
-}
+# A program that rt built: crates/NAME/out/NAME. Programs for x86-64 alone have their loader where it says.
+run_proved() { run_c "$@"; }
 
 # A C program that $cross linked.
 run_c() {
@@ -35,6 +32,6 @@ need_cross() {
 # The machine in a few words, and how it runs programs for x86-64.
 machine() {
     name=$(sed -n 's/^model name[^:]*: //p' /proc/cpuinfo | head -n 1)
-    how=${emulator:+under the emulator of the kit}
+    how=${emulator:+under an emulator}
     echo "$(uname -m)${name:+, $name}, $(nproc) processors; programs for x86-64 run ${how:-on it itself}"
 }

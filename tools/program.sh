@@ -49,14 +49,15 @@ bytes() { # NUMBER COUNT
 
 size() { wc -c <"$1" | tr -d ' '; } # FILE
 
-# Proves the program where that is not done yet; in a clone that cannot be written it must be.
+# Proves the program where that is not done yet; in a clone that cannot be written it must be. $built is what to run.
 prove_first() {
     . "$root/tools/prove.sh"
+    built=$(program_of "$program")
     is_proved "$program" && return
     if mkdir -p "$root/target" 2>/dev/null && [ -w "$root/target" ]; then
         prove "$program"
     else
-        prove_aside "$program" "$room/aside"
+        prove_aside "$program" "$room/aside" && built=$aside
     fi
 }
 

@@ -1,5 +1,5 @@
 # Proving before a run: one at a time in a clone, with what is being done on standard error. To be read by the other
-# scripts, with $root (this clone) set.
+# scripts, with $root (this clone) set. What is noted lies in target/: logs, a lock, and what was proved.
 . "$root/tools/kit.sh"
 me=${0##*/}
 
@@ -14,21 +14,25 @@ made_of() { # NAME
             print n
         }
         { sub(/#.*/, "") }
-        split($0, side, ":") == 2 { needs[side[1]] = side[2] }
+        split($0, side, ":") == 2 { split(side[1], head, " "); needs[head[1]] = side[2] }
         END { visit(name) }' "$root/crates.txt"
 }
 
-# One number for what a proof hangs on: the kit, the machine, the crates' files.
-files() { find crates.txt crates -type f -exec sha256sum {} + | LC_ALL=C sort; }
+# The program and the archive that rt builds, in the crate's own folder.
+program_of() { echo "$root/crates/$1/out/$1"; } # NAME
+archive=$root/crates/capi_c/out/libcapi_c.a
+
+# One number for what a proof hangs on: the kit, the machine, the crates' files but for what rt makes of them.
+files() { find crates.txt crates -path 'crates/*/out' -prune -o -type f -exec sha256sum {} + | LC_ALL=C sort; }
 sources() {
     (cd "$root" && { rt version && uname -m && files; } | sha256sum)
 }
 
-# Is target/bin/NAME the program that was proved of the crates as they stand? Writes nothing. target/NAME.proved says
-# so: the kit, its sources, the program.
+# Is a crate's program the one that was proved of the crates as they stand? Writes nothing. target/NAME.proved says so:
+# the kit, its sources, the program.
 is_proved() { # NAME
-    [ -r "$root/target/$1.proved" ] && [ -r "$root/target/bin/$1" ] &&
-        [ "$(sed 1d "$root/target/$1.proved")" = "$(sources && sha256sum <"$root/target/bin/$1")" ]
+    [ -r "$root/target/$1.proved" ] && [ -r "$(program_of "$1")" ] &&
+        [ "$(sed 1d "$root/target/$1.proved")" = "$(sources && sha256sum <"$(program_of "$1")")" ]
 }
 
 # Runs a command while nobody else in this clone is proving.
@@ -43,43 +47,27 @@ alone() { # COMMAND..
     ) 9>>"$root/target/lock"
 }
 
-# Says which crates rt is at: it notes each in target/log as it begins it, and what came of it at the end.
-watch() { # CRATES..
-    begun=' '
-    while sleep 1 >/dev/null 2>&1 && kill -0 $$ 2>/dev/null; do
-        for c; do
-            case $begun in *" $c "*) continue ;; esac
-            if [ ! -s "$root/target/log/$c.out" ] && grep -qs failed "$root/target/log/$c.res"; then
-                begun="$begun$c "
-                echo "$me: proving $c" >&2
-            fi
-        done
-    done
-}
-
-# Runs rt on a crate, with all that it says in a file, and on standard error what it is at and each crate that is
-# done. Ends as rt did.
+# Runs a command of rt in a crate's folder, with all that it says in a file, and on standard error what it is at and each
+# crate that is done, by its place among those that the crate is made of. A program that it runs reads nothing. Ends as
+# rt did.
 told() { # LOG COMMAND NAME
-    log=$root/target/$1 command=$2 name=$3 k=0 ended=1
-    # shellcheck disable=SC2046
-    set -- $(made_of "$3")
-    for c; do rm -f "$root/target/log/$c.res" "$root/target/log/$c.out"; done
-    watch "$@" >/dev/null 9>&- &
-    watcher=$!
+    log=$root/target/$1 command=$2 name=$3 crates=$(made_of "$3") at=$3 ended=1
+    many=$(echo "$crates" | wc -l)
     {
-        (cd "$root" && rt "$command" "$name") </dev/null 2>&1 && echo "ended 0" || echo "ended $?"
+        (cd "$root/crates/$name" && rt "$command") </dev/null 2>&1 && echo "ended 0" || echo "ended $?"
     } | tee "$log" | {
         while IFS= read -r line; do
             case $line in
-            'rt: '*' proved ('* | 'rt: '*' NOT PROVED'*) k=$((k + 1)) && echo "$me: $k of $#: ${line#rt: }" >&2 ;;
-            'rt: target/staticlib/'*) k=$((k + 1)) && echo "$me: $k of $#: $name proved, the archive is written" >&2 ;;
-            'rt: '*FAILED*) echo "$me: ${line#rt: }" >&2 ;;
+            'rt: chose '*' for '*) echo "$me: proving ${line##* for }" >&2 ;;
+            'crate '*': '*) at=${line#crate } at=${at%%:*} ;;
+            logic=proved*) echo "$me: $(echo "$crates" | grep -nx "$at" | cut -d: -f1) of $many: $at proved" >&2 ;;
+            logic=*) echo "$me: $at NOT PROVED" >&2 ;;
+            *': error'*) echo "$me: $line" >&2 ;;
             'ended '*) ended=${line#ended } ;;
             esac
         done
         exit "$ended"
     } && ended=0 || ended=$?
-    kill "$watcher" 2>/dev/null || :
     return "$ended"
 }
 
@@ -90,32 +78,38 @@ prove_here() { # NAME
     ! is_proved "$1" || return 0
     from=$(sources) many=$(made_of "$1" | wc -l)
     echo "$me: checking $1 and what it is made of, $many crates; what is new or changed is proved, a minute each" >&2
-    told "$1.log" check "$1" || {
+    told "$1.log" run "$1" || {
         echo "$me: it is not proved; $root/target/$1.log has why" >&2
         return 1
     }
     [ "$from" = "$(sources)" ] || return 0 # changed meanwhile: the next run checks again
-    { rt version && echo "$from" && sha256sum <"$root/target/bin/$1"; } >"$root/target/$1.proved"
+    { rt version && echo "$from" && sha256sum <"$(program_of "$1")"; } >"$root/target/$1.proved"
 }
 
-# The same in a clone that cannot be written: rt reads copies of its stamps in a folder of ours and finds nothing to
-# prove, or the clone is not built. $name is the script's.
+# The same in a clone that cannot be written: in a copy rt finds nothing to prove, or the clone is not built. $name is the
+# script's. The copy's program is $aside.
 prove_aside() { # NAME ROOM
-    mkdir -p "$2/target/stamp" && ln -s "$root/crates" "$root/crates.txt" "$2/" &&
-        cp "$root"/target/stamp/* "$2/target/stamp/" 2>/dev/null &&
-        (cd "$2" && timeout 60 rt check "$1") </dev/null >"$2/log" 2>&1 && [ -r "$root/target/bin/$1" ] && return
+    aside=$2/crates/$1/out/$1
+    [ -r "$(program_of "$1")" ] && copy_aside "$1" "$2" &&
+        (cd "$2/crates/$1" && timeout 120 rt run) </dev/null >"$2/log" 2>&1 && [ -r "$aside" ] && return
     echo "$me: $root is not built as it stands, and you cannot write there: let its owner run ./$name likewise" >&2
     return 1
 }
 
-# Proves the library for C and Rust and writes target/staticlib/libcapi.a.
+# A copy of the crates, with what rt made of those that one of them is made of.
+copy_aside() { # NAME ROOM
+    mkdir -p "$2" && (cd "$root" && tar -cf - --exclude='crates/*/out' crates.txt crates) | tar -xf - -C "$2" &&
+        chmod -R u+w "$2" && for c in $(made_of "$1"); do cp -R -p "$root/crates/$c/out" "$2/crates/$c/" || return; done &&
+        chmod -R u+w "$2"
+}
+
+# Proves the library for C and Rust and writes $archive.
 prove_archive() { alone archive_here; }
 
 archive_here() {
-    many=$(made_of capi | wc -l)
-    echo "$me: checking the library for C, $many crates; the last of them is proved each time, in half a minute" >&2
-    told staticlib.log staticlib capi || {
-        echo "$me: it is not proved; $root/target/staticlib.log has why" >&2
+    echo "$me: checking the library for C, $(made_of capi_c | wc -l) crates; what is new or changed is proved" >&2
+    told capi_c.log lib capi_c || {
+        echo "$me: it is not proved; $root/target/capi_c.log has why" >&2
         return 1
     }
 }

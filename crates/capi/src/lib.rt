@@ -1,7 +1,8 @@
-// The operations for C and Rust; include/hourbench.h declares them. A `&[u8]` is a pointer and a length to C, an `&mut
-// [i64; 8]` a pointer. Each function calls the operation and shows its answer, by the crate eight: it returns the
-// refusal number (0: none) and writes all 8 of `answer`: number, row, ring, the operation's fields in order, zeros.
-// Those with a change set are in sets.rt.
+// The operations for C and Rust, as the crate capi_c exports them. Each function calls the operation and shows its
+// answer, by the crate eight: it returns the refusal number (0: none) and writes all 8 of `answer`: number, row, ring,
+// the operation's fields in order, zeros. Those with a change set are in sets.rt.
+#![tactic(auto)]
+
 mod sets;
 
 ghost use Rattle.std.specs.Prelude.{[]};
@@ -40,8 +41,7 @@ pub use sets::{
 };
 
 // Fields: nodes, bound, filler.
-#[unsafe(no_mangle)]
-pub extern "C" fn hb_accept(s: &[u8], answer: &mut [i64; 8]) -> u8
+pub fn hb_accept(s: &[u8], answer: &mut [i64; 8]) -> u8
     ensures { AcceptCall s.now (call result answer.new []) }
 {
     let o = accept::accept(s);
@@ -49,8 +49,7 @@ pub extern "C" fn hb_accept(s: &[u8], answer: &mut [i64; 8]) -> u8
 }
 
 // Fields: length, weight, hops.
-#[unsafe(no_mangle)]
-pub extern "C" fn hb_pair(s: &[u8], marks: &[u16], a: u16, b: u16, answer: &mut [i64; 8]) -> u8
+pub fn hb_pair(s: &[u8], marks: &[u16], a: u16, b: u16, answer: &mut [i64; 8]) -> u8
     ensures { PairCall s.now marks.now a b (call result answer.new []) }
 {
     let o = pair::pair(s, marks, a, b);
@@ -58,8 +57,7 @@ pub extern "C" fn hb_pair(s: &[u8], marks: &[u16], a: u16, b: u16, answer: &mut 
 }
 
 // Fields: low, high, length, weight.
-#[unsafe(no_mangle)]
-pub extern "C" fn hb_heaviest(s: &[u8], marks: &[u16], answer: &mut [i64; 8]) -> u8
+pub fn hb_heaviest(s: &[u8], marks: &[u16], answer: &mut [i64; 8]) -> u8
     ensures { HeaviestCall s.now marks.now (call result answer.new []) }
 {
     let o = heaviest::heaviest(s, marks);
@@ -67,8 +65,7 @@ pub extern "C" fn hb_heaviest(s: &[u8], marks: &[u16], answer: &mut [i64; 8]) ->
 }
 
 // The same for exactly the bound's length.
-#[unsafe(no_mangle)]
-pub extern "C" fn hb_heaviest_exact(s: &[u8], marks: &[u16], answer: &mut [i64; 8]) -> u8
+pub fn hb_heaviest_exact(s: &[u8], marks: &[u16], answer: &mut [i64; 8]) -> u8
     ensures { HeaviestExactCall s.now marks.now (call result answer.new []) }
 {
     let o = heaviest::heaviest_exact(s, marks);
@@ -76,8 +73,7 @@ pub extern "C" fn hb_heaviest_exact(s: &[u8], marks: &[u16], answer: &mut [i64; 
 }
 
 // No fields; each node's head into `heads`.
-#[unsafe(no_mangle)]
-pub extern "C" fn hb_heads(s: &[u8], heads: &mut [u16], answer: &mut [i64; 8]) -> u8
+pub fn hb_heads(s: &[u8], heads: &mut [u16], answer: &mut [i64; 8]) -> u8
     ensures { HeadsCall s.now heads.old
         (call result answer.new heads.new) }
 {
@@ -86,8 +82,7 @@ pub extern "C" fn hb_heads(s: &[u8], heads: &mut [u16], answer: &mut [i64; 8]) -
 }
 
 // Fields: written, left; the rows into `rows`.
-#[unsafe(no_mangle)]
-pub extern "C" fn hb_listing(
+pub fn hb_listing(
     s: &[u8],
     marks: &[u16],
     floor: i64,
@@ -104,8 +99,7 @@ pub extern "C" fn hb_listing(
 }
 
 // The same for exactly the bound's length.
-#[unsafe(no_mangle)]
-pub extern "C" fn hb_listing_exact(
+pub fn hb_listing_exact(
     s: &[u8],
     marks: &[u16],
     floor: i64,
@@ -122,8 +116,7 @@ pub extern "C" fn hb_listing_exact(
 }
 
 // Fields: low, high, count, weight.
-#[unsafe(no_mangle)]
-pub extern "C" fn hb_window(
+pub fn hb_window(
     s: &[u8],
     marks: &[u16],
     fewest: u32,
@@ -140,8 +133,7 @@ pub extern "C" fn hb_window(
 }
 
 // Fields: written, left; the rows into `rows`.
-#[unsafe(no_mangle)]
-pub extern "C" fn hb_window_list(
+pub fn hb_window_list(
     s: &[u8],
     marks: &[u16],
     fewest: u32,
@@ -161,14 +153,7 @@ pub extern "C" fn hb_window_list(
 }
 
 // Fields: the verdict (1 yes, 2 a row at fault, 3 a pair missing), row, low, high; the list is only read.
-#[unsafe(no_mangle)]
-pub extern "C" fn hb_vet(
-    s: &[u8],
-    marks: &[u16],
-    floor: i64,
-    list: &[u8],
-    answer: &mut [i64; 8],
-) -> u8
+pub fn hb_vet(s: &[u8], marks: &[u16], floor: i64, list: &[u8], answer: &mut [i64; 8]) -> u8
     ensures { VetCall s.now marks.now floor list.now
         (call result answer.new []) }
 {
@@ -177,15 +162,7 @@ pub extern "C" fn hb_vet(
 }
 
 // Fields: claimed; the marks change in place.
-#[unsafe(no_mangle)]
-pub extern "C" fn hb_claim(
-    s: &[u8],
-    marks: &mut [u16],
-    run: u16,
-    a: u16,
-    b: u16,
-    answer: &mut [i64; 8],
-) -> u8
+pub fn hb_claim(s: &[u8], marks: &mut [u16], run: u16, a: u16, b: u16, answer: &mut [i64; 8]) -> u8
     ensures { ClaimCall s.now marks.old run a b
         (call result answer.new marks.new) }
 {
@@ -194,8 +171,7 @@ pub extern "C" fn hb_claim(
 }
 
 // Fields: changed; the marks change in place.
-#[unsafe(no_mangle)]
-pub extern "C" fn hb_commit(s: &[u8], marks: &mut [u16], run: u16, answer: &mut [i64; 8]) -> u8
+pub fn hb_commit(s: &[u8], marks: &mut [u16], run: u16, answer: &mut [i64; 8]) -> u8
     ensures { CommitCall s.now marks.old run
         (call result answer.new marks.new) }
 {
@@ -204,8 +180,7 @@ pub extern "C" fn hb_commit(s: &[u8], marks: &mut [u16], run: u16, answer: &mut 
 }
 
 // Fields: changed; the marks change in place.
-#[unsafe(no_mangle)]
-pub extern "C" fn hb_abort(s: &[u8], marks: &mut [u16], run: u16, answer: &mut [i64; 8]) -> u8
+pub fn hb_abort(s: &[u8], marks: &mut [u16], run: u16, answer: &mut [i64; 8]) -> u8
     ensures { AbortCall s.now marks.old run
         (call result answer.new marks.new) }
 {
@@ -214,8 +189,7 @@ pub extern "C" fn hb_abort(s: &[u8], marks: &mut [u16], run: u16, answer: &mut [
 }
 
 // No fields; an old set of marks is only read.
-#[unsafe(no_mangle)]
-pub extern "C" fn hb_convert(s: &[u8], marks: &[u16], answer: &mut [i64; 8]) -> u8
+pub fn hb_convert(s: &[u8], marks: &[u16], answer: &mut [i64; 8]) -> u8
     ensures { ConvertCall s.now marks.now (call result answer.new []) }
 {
     let o = convert::convert(s, marks);
@@ -223,8 +197,7 @@ pub extern "C" fn hb_convert(s: &[u8], marks: &[u16], answer: &mut [i64; 8]) -> 
 }
 
 // Fields: size; the table of two texts into `table`.
-#[unsafe(no_mangle)]
-pub extern "C" fn hb_dimacs_read(
+pub fn hb_dimacs_read(
     lengths: &[u8],
     weights: &[u8],
     bound: u32,
@@ -239,8 +212,7 @@ pub extern "C" fn hb_dimacs_read(
 }
 
 // Fields: the two sizes; the texts into `lengths` and `weights`.
-#[unsafe(no_mangle)]
-pub extern "C" fn hb_dimacs_write(
+pub fn hb_dimacs_write(
     s: &[u8],
     lengths: &mut [u8],
     weights: &mut [u8],
@@ -254,8 +226,7 @@ pub extern "C" fn hb_dimacs_write(
 }
 
 // No fields; one row of version 2 into `row`.
-#[unsafe(no_mangle)]
-pub extern "C" fn hb_write_row(
+pub fn hb_write_row(
     a: u16,
     b: u16,
     wire: u32,
@@ -272,8 +243,7 @@ pub extern "C" fn hb_write_row(
 }
 
 // Fields: branches, low, high.
-#[unsafe(no_mangle)]
-pub extern "C" fn hb_mesh(s: &[u8], answer: &mut [i64; 8]) -> u8
+pub fn hb_mesh(s: &[u8], answer: &mut [i64; 8]) -> u8
     ensures { MeshCall s.now (call result answer.new []) }
 {
     let o = mesh::mesh(s);

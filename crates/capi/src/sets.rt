@@ -27,8 +27,7 @@ use eight::{
 };
 
 // Fields: nodes, bound.
-#[unsafe(no_mangle)]
-pub extern "C" fn hb_accept_with(table: &[u8], changes: &[u8], answer: &mut [i64; 8]) -> u8
+pub fn hb_accept_with(table: &[u8], changes: &[u8], answer: &mut [i64; 8]) -> u8
     ensures { AcceptWithCall table.now changes.now (call result answer.new []) }
 {
     let o = frozen::accept_with(table, changes);
@@ -36,8 +35,7 @@ pub extern "C" fn hb_accept_with(table: &[u8], changes: &[u8], answer: &mut [i64
 }
 
 // Fields: length, weight, hops.
-#[unsafe(no_mangle)]
-pub extern "C" fn hb_pair_with(
+pub fn hb_pair_with(
     table: &[u8],
     changes: &[u8],
     marks: &[u16],
@@ -53,13 +51,7 @@ pub extern "C" fn hb_pair_with(
 }
 
 // Fields: low, high, length, weight.
-#[unsafe(no_mangle)]
-pub extern "C" fn hb_heaviest_with(
-    table: &[u8],
-    changes: &[u8],
-    marks: &[u16],
-    answer: &mut [i64; 8],
-) -> u8
+pub fn hb_heaviest_with(table: &[u8], changes: &[u8], marks: &[u16], answer: &mut [i64; 8]) -> u8
     ensures { HeaviestWithCall table.now changes.now marks.now
         (call result answer.new []) }
 {
@@ -68,8 +60,7 @@ pub extern "C" fn hb_heaviest_with(
 }
 
 // The same for exactly the bound's length.
-#[unsafe(no_mangle)]
-pub extern "C" fn hb_heaviest_exact_with(
+pub fn hb_heaviest_exact_with(
     table: &[u8],
     changes: &[u8],
     marks: &[u16],
@@ -83,13 +74,7 @@ pub extern "C" fn hb_heaviest_exact_with(
 }
 
 // No fields; each node's head into `heads`.
-#[unsafe(no_mangle)]
-pub extern "C" fn hb_heads_with(
-    table: &[u8],
-    changes: &[u8],
-    heads: &mut [u16],
-    answer: &mut [i64; 8],
-) -> u8
+pub fn hb_heads_with(table: &[u8], changes: &[u8], heads: &mut [u16], answer: &mut [i64; 8]) -> u8
     ensures { HeadsWithCall table.now changes.now heads.old
         (call result answer.new heads.new) }
 {
@@ -98,8 +83,7 @@ pub extern "C" fn hb_heads_with(
 }
 
 // Fields: written, left; the rows into `rows`.
-#[unsafe(no_mangle)]
-pub extern "C" fn hb_listing_with(
+pub fn hb_listing_with(
     table: &[u8],
     changes: &[u8],
     marks: &[u16],
@@ -117,8 +101,7 @@ pub extern "C" fn hb_listing_with(
 }
 
 // The same for exactly the bound's length.
-#[unsafe(no_mangle)]
-pub extern "C" fn hb_listing_exact_with(
+pub fn hb_listing_exact_with(
     table: &[u8],
     changes: &[u8],
     marks: &[u16],
@@ -136,8 +119,7 @@ pub extern "C" fn hb_listing_exact_with(
 }
 
 // Fields: low, high, count, weight.
-#[unsafe(no_mangle)]
-pub extern "C" fn hb_window_with(
+pub fn hb_window_with(
     table: &[u8],
     changes: &[u8],
     marks: &[u16],
@@ -155,8 +137,7 @@ pub extern "C" fn hb_window_with(
 }
 
 // Fields: written, left; the rows into `rows`.
-#[unsafe(no_mangle)]
-pub extern "C" fn hb_window_list_with(
+pub fn hb_window_list_with(
     table: &[u8],
     changes: &[u8],
     marks: &[u16],
@@ -180,8 +161,7 @@ pub extern "C" fn hb_window_list_with(
 }
 
 // Fields: the verdict, row, low, high; the list is only read.
-#[unsafe(no_mangle)]
-pub extern "C" fn hb_vet_with(
+pub fn hb_vet_with(
     table: &[u8],
     changes: &[u8],
     marks: &[u16],
@@ -197,8 +177,7 @@ pub extern "C" fn hb_vet_with(
 }
 
 // Fields: claimed; the marks change in place.
-#[unsafe(no_mangle)]
-pub extern "C" fn hb_claim_with(
+pub fn hb_claim_with(
     table: &[u8],
     changes: &[u8],
     marks: &mut [u16],
@@ -215,8 +194,7 @@ pub extern "C" fn hb_claim_with(
 }
 
 // Fields: changed; the marks change in place.
-#[unsafe(no_mangle)]
-pub extern "C" fn hb_commit_with(
+pub fn hb_commit_with(
     table: &[u8],
     changes: &[u8],
     marks: &mut [u16],
@@ -231,8 +209,7 @@ pub extern "C" fn hb_commit_with(
 }
 
 // Fields: changed; the marks change in place.
-#[unsafe(no_mangle)]
-pub extern "C" fn hb_abort_with(
+pub fn hb_abort_with(
     table: &[u8],
     changes: &[u8],
     marks: &mut [u16],
@@ -247,13 +224,7 @@ pub extern "C" fn hb_abort_with(
 }
 
 // No fields; an old set of marks is only read.
-#[unsafe(no_mangle)]
-pub extern "C" fn hb_convert_with(
-    table: &[u8],
-    changes: &[u8],
-    marks: &[u16],
-    answer: &mut [i64; 8],
-) -> u8
+pub fn hb_convert_with(table: &[u8], changes: &[u8], marks: &[u16], answer: &mut [i64; 8]) -> u8
     ensures { ConvertWithCall table.now changes.now marks.now
         (call result answer.new []) }
 {
@@ -262,8 +233,7 @@ pub extern "C" fn hb_convert_with(
 }
 
 // Fields: the two sizes; the texts into `lengths` and `weights`.
-#[unsafe(no_mangle)]
-pub extern "C" fn hb_dimacs_write_with(
+pub fn hb_dimacs_write_with(
     table: &[u8],
     changes: &[u8],
     lengths: &mut [u8],

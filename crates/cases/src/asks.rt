@@ -15,6 +15,8 @@ use numbers::put_bytes;
 use paging::Listed;
 use pair::PairAnswer;
 use spines::HeadsAnswer;
+use std::io;
+use std::io::{Read, Write};
 use table::{Opening, Row};
 use vetting::Vetted;
 use window::WindowAnswer;
@@ -236,18 +238,18 @@ fn signed(x: u64) -> i64 {
 }
 
 // The table's own functions, and the row shown. A row number is any that 64 bits hold.
-fn of_table<'a>(s: &'a [u8], set: &'a [u8], q: Ask) {
+fn of_table<W: Write>(to: &mut W, s: &[u8], set: &[u8], q: Ask) -> io::Result<()> {
     let code = q.code;
     let row = q.x as usize;
     let shown = q.shown;
     match code {
-        1 => say::line(opened(table::open_table(s))),
-        2 => say::line(opened(table::examine(s))),
-        3 => say::bytes(say::fine(0, 0, 0), table::row_part(s, row), shown),
-        4 => say::line(say::fine(1, table::next_row(s, row) as u64, 0)),
-        5 => say::bytes(say::fine(0, 0, 0), table::first_row(s), shown),
-        6 => say::line(decoded(table::row_at(s, row))),
-        _ => say::bytes(say::fine(0, 0, 0), changeset::shown(s, set, row), shown),
+        1 => say::line(to, opened(table::open_table(s))),
+        2 => say::line(to, opened(table::examine(s))),
+        3 => say::bytes(to, say::fine(0, 0, 0), table::row_part(s, row), shown),
+        4 => say::line(to, say::fine(1, table::next_row(s, row) as u64, 0)),
+        5 => say::bytes(to, say::fine(0, 0, 0), table::first_row(s), shown),
+        6 => say::line(to, decoded(table::row_at(s, row))),
+        _ => say::bytes(to, say::fine(0, 0, 0), changeset::shown(s, set, row), shown),
     }
 }
 
@@ -345,15 +347,16 @@ fn put(s: &[u8], set: &[u8], marks: &[u16], q: Ask, rows: &mut [u8]) -> Answer {
 }
 
 // As many bytes as are lent, each of which held 165.
-fn of_lent(s: &[u8], set: &[u8], marks: &[u16], q: Ask) {
+fn of_lent<W: Write>(to: &mut W, s: &[u8], set: &[u8], marks: &[u16], q: Ask) -> io::Result<()> {
     let size = q.lent;
     let mut space = [165u8; 65536];
     let whole = &mut space[..];
     if size <= whole.len() {
         let rows = &mut whole[0..size];
         let a = put(s, set, marks, q, rows);
-        say::bytes(a, rows, q.shown);
+        say::bytes(to, a, rows, q.shown)?;
     }
+    Ok(())
 }
 
 // What the writer refuses; or all rows are written, and what was made is accepted or not.
@@ -368,23 +371,24 @@ fn remade(s: &[u8], made: &mut [u8]) -> Answer
 }
 
 // As many bytes as the table has, each of which held 165.
-fn of_table_anew(s: &[u8], q: Ask) {
+fn of_table_anew<W: Write>(to: &mut W, s: &[u8], q: Ask) -> io::Result<()> {
     let size = s.len();
     let mut space = [165u8; 65536];
     let whole = &mut space[..];
     if size <= whole.len() {
         let made = &mut whole[0..size];
         let a = remade(s, made);
-        say::bytes(a, made, q.shown);
+        say::bytes(to, a, made, q.shown)?;
     }
+    Ok(())
 }
 
 // Those that put rows into bytes.
-fn of_rows(s: &[u8], set: &[u8], marks: &[u16], q: Ask) {
+fn of_rows<W: Write>(to: &mut W, s: &[u8], set: &[u8], marks: &[u16], q: Ask) -> io::Result<()> {
     if q.code == 37 {
-        of_table_anew(s, q);
+        of_table_anew(to, s, q)
     } else {
-        of_lent(s, set, marks, q);
+        of_lent(to, s, set, marks, q)
     }
 }
 
@@ -396,15 +400,16 @@ fn heads(s: &[u8], set: &[u8], q: Ask, list: &mut [u16]) -> HeadsAnswer {
 }
 
 // A list of as many heads as are lent, each of which held 165.
-fn of_heads(s: &[u8], set: &[u8], q: Ask) {
+fn of_heads<W: Write>(to: &mut W, s: &[u8], set: &[u8], q: Ask) -> io::Result<()> {
     let size = q.lent;
     let mut space = [165u16; 4200];
     let whole = &mut space[..];
     if size <= whole.len() {
         let list = &mut whole[0..size];
         let a = headed(heads(s, set, q, list));
-        say::words(a, list, q.shown);
+        say::words(to, a, list, q.shown)?;
     }
+    Ok(())
 }
 
 fn change(s: &[u8], set: &[u8], marks: &mut [u16], q: Ask) -> Change {
@@ -419,17 +424,23 @@ fn change(s: &[u8], set: &[u8], marks: &mut [u16], q: Ask) -> Change {
     }
 }
 
-fn of_marks(s: &[u8], set: &[u8], marks: &mut [u16], q: Ask) {
+fn of_marks<W: Write>(
+    to: &mut W,
+    s: &[u8],
+    set: &[u8],
+    marks: &mut [u16],
+    q: Ask,
+) -> io::Result<()> {
     let a = changed(change(s, set, marks, q));
-    say::words(a, marks, q.shown);
+    say::words(to, a, marks, q.shown)
 }
 
 // No operation: another bound for the asks that follow, in the table's own bytes. A table without room for it stays.
-fn of_bound(s: &mut [u8], q: Ask) {
+fn of_bound<W: Write>(to: &mut W, s: &mut [u8], q: Ask) -> io::Result<()> {
     if s.len() >= 12 {
         put_bytes(s, 8, q.x, 4);
     }
-    say::line(say::fine(0, 0, 0));
+    say::line(to, say::fine(0, 0, 0))
 }
 
 fn verdict_on(s: &[u8], set: &[u8], marks: &[u16], q: Ask, list: &[u8]) -> Vetted {
@@ -441,28 +452,43 @@ fn verdict_on(s: &[u8], set: &[u8], marks: &[u16], q: Ask, list: &[u8]) -> Vette
 }
 
 // A list to be read, of as many bytes as the ask says, which stand behind its text.
-fn of_list(s: &[u8], set: &[u8], marks: &[u16], q: Ask) {
+fn of_list<R: Read, W: Write>(
+    from: &mut R,
+    to: &mut W,
+    s: &[u8],
+    set: &[u8],
+    marks: &[u16],
+    q: Ask,
+) -> io::Result<()> {
     let size = q.lent;
     let mut space = [0u8; 65536];
     let whole = &mut space[..];
     if size <= whole.len() {
         let list = &mut whole[0..size];
-        read::bytes(list);
-        say::line(vetted(verdict_on(s, set, marks, q, list)));
+        read::bytes(from, list)?;
+        say::line(to, vetted(verdict_on(s, set, marks, q, list)))?;
     }
+    Ok(())
 }
 
-pub(crate) fn answer(s: &mut [u8], set: &[u8], marks: &mut [u16], q: Ask) {
-    read::text(q.text);
+pub(crate) fn answer<R: Read, W: Write>(
+    from: &mut R,
+    to: &mut W,
+    s: &mut [u8],
+    set: &[u8],
+    marks: &mut [u16],
+    q: Ask,
+) -> io::Result<()> {
+    read::text(from, to, q.text)?;
     let sort = q.code / 16;
     match sort {
-        0 | 8 => of_table(s, set, q),
-        1 => say::line(of_net(s, set, marks, q)),
-        2 | 10 => of_rows(s, set, marks, q),
-        3 | 11 => of_heads(s, set, q),
-        4 | 12 => of_marks(s, set, marks, q),
-        5 => of_bound(s, q),
-        9 => say::line(of_changed_net(s, set, marks, q)),
-        _ => of_list(s, set, marks, q),
+        0 | 8 => of_table(to, s, set, q),
+        1 => say::line(to, of_net(s, set, marks, q)),
+        2 | 10 => of_rows(to, s, set, marks, q),
+        3 | 11 => of_heads(to, s, set, q),
+        4 | 12 => of_marks(to, s, set, marks, q),
+        5 => of_bound(to, s, q),
+        9 => say::line(to, of_changed_net(s, set, marks, q)),
+        _ => of_list(from, to, s, set, marks, q),
     }
 }

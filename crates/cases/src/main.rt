@@ -1,71 +1,110 @@
 // Answers the cases on standard input, a line for each ask; oracle/README.md has the form of both. What it must write
-// is what oracle/ says: of a hand-worked case the answers in oracle/worked.txt, of a random one what oracle/ computes.
+// is what oracle/ says: of a hand-worked case the answers in oracle/worked.txt, of a random one what oracle/ computes. A read or
+// a write that fails ends it with that error.
+#![tactic(auto)]
+
 mod anew;
 mod asks;
 mod read;
 mod say;
 
+use std::io;
+use std::io::{Read, Write};
+
 // The asks of a case, one after the other, on one table, one change set and one set of marks.
-fn each(s: &mut [u8], set: &[u8], marks: &mut [u16], count: u16) {
-    let mut i: u16 = 0;
-    while i < count {
-        asks::answer(s, set, marks, read::next_ask());
-        i += 1;
+fn each<R: Read, W: Write>(
+    from: &mut R,
+    to: &mut W,
+    s: &mut [u8],
+    set: &[u8],
+    marks: &mut [u16],
+    count: u16,
+) -> io::Result<()> {
+    for _ in 0..count {
+        let ask = read::next_ask(from)?;
+        asks::answer(from, to, s, set, marks, ask)?;
     }
+    Ok(())
 }
 
-fn with_marks(s: &mut [u8], set: &[u8], count: u16, asks: u16) {
+fn with_marks<R: Read, W: Write>(
+    from: &mut R,
+    to: &mut W,
+    s: &mut [u8],
+    set: &[u8],
+    count: u16,
+    asks: u16,
+) -> io::Result<()> {
     let size = count as usize;
     let mut space = [0u16; 4200];
     let whole = &mut space[..];
     if size <= whole.len() {
         let marks = &mut whole[0..size];
-        read::marks(marks);
-        each(s, set, marks, asks);
+        read::marks(from, marks)?;
+        each(from, to, s, set, marks, asks)?;
     }
+    Ok(())
 }
 
-fn with_set(s: &mut [u8], count: u16, marks: u16, asks: u16) {
+fn with_set<R: Read, W: Write>(
+    from: &mut R,
+    to: &mut W,
+    s: &mut [u8],
+    count: u16,
+    marks: u16,
+    asks: u16,
+) -> io::Result<()> {
     let size = count as usize;
     let mut space = [0u8; 57400];
     let whole = &mut space[..];
     if size <= whole.len() {
         let set = &mut whole[0..size];
-        read::bytes(set);
-        with_marks(s, set, marks, asks);
+        read::bytes(from, set)?;
+        with_marks(from, to, s, set, marks, asks)?;
     }
+    Ok(())
 }
 
-fn with_table(count: u16, set: u16, marks: u16, asks: u16) {
+fn with_table<R: Read, W: Write>(
+    from: &mut R,
+    to: &mut W,
+    count: u16,
+    set: u16,
+    marks: u16,
+    asks: u16,
+) -> io::Result<()> {
     let size = count as usize;
     let mut space = [0u8; 49200];
     let whole = &mut space[..];
     if size <= whole.len() {
         let table = &mut whole[0..size];
-        read::bytes(table);
-        with_set(table, set, marks, asks);
+        read::bytes(from, table)?;
+        with_set(from, to, table, set, marks, asks)?;
     }
+    Ok(())
 }
 
 // A case: how much it has of each thing, then the things.
-fn case() {
-    let text = read::number();
-    let table = read::number();
-    let set = read::number();
-    let marks = read::number();
-    let asks = read::number();
-    read::text(text);
-    with_table(table, set, marks, asks);
+fn case<R: Read, W: Write>(from: &mut R, to: &mut W) -> io::Result<()> {
+    let text = read::number(from)?;
+    let table = read::number(from)?;
+    let set = read::number(from)?;
+    let marks = read::number(from)?;
+    let asks = read::number(from)?;
+    read::text(from, to, text)?;
+    with_table(from, to, table, set, marks, asks)
 }
 
-fn cases(count: u64) {
-    let mut i: u64 = 0;
-    while i < count {
-        case();
-        i += 1;
+fn cases<R: Read, W: Write>(from: &mut R, to: &mut W, count: u64) -> io::Result<()> {
+    for _ in 0..count {
+        case(from, to)?;
     }
+    Ok(())
 }
 
-fn main() {
-    cases(read::long());
+fn main(rt: HostRuntime) -> io::Result<()> {
+    let mut from = rt.stdin();
+    let mut to = rt.stdout();
+    let count = read::long(&mut from)?;
+    cases(&mut from, &mut to, count)
 }

@@ -1,12 +1,15 @@
-// Standard input: a case's sizes, its bytes and marks, its asks, all in the order in which they stand there.
+// Standard input: a case's sizes, its bytes and marks, its asks, all in the order in which they stand there. Where
+// the input ends, what is missing is zeros.
 ghost use Rattle.std.specs.Prelude.{◌≡◌, ◌<◌};
 
-use libc::{STDIN_FILENO, STDOUT_FILENO};
+use std::io;
+use std::io::{Read, Write};
+use streams::{read_full, write_all};
 
 // An ask: its operation, how many bytes its text has, how much memory is lent (of vet, how many bytes the list has) and
 // how much of that is written out after the call, and the operation's numbers: those of a window stand at the end, but
 // for its lower sum, which is x. Of a row to be written the kind is run, the length count_low, the count count_high.
-#[derive(Drop)]
+#[derive(Clone, Copy)]
 pub(crate) struct Ask {
     pub(crate) code: u16,
     pub(crate) text: u16,
@@ -28,41 +31,41 @@ fn wide(x: u8) -> u16
 }
 
 // The next number of 16 bits, the lower byte first.
-pub(crate) fn number() -> u16 {
+pub(crate) fn number<R: Read>(from: &mut R) -> io::Result<u16> {
     let mut h = [0u8; 2];
-    io::read_full(STDIN_FILENO, &mut h);
-    wide(h[0]) + 256 * wide(h[1])
+    read_full(from, &mut h)?;
+    Ok(wide(h[0]) + 256 * wide(h[1]))
 }
 
 // The next number of 32 bits, the lower bytes first.
-fn middle() -> u32 {
-    let a = number() as u32;
-    let b = number() as u32;
-    a + 65536 * b
+fn middle<R: Read>(from: &mut R) -> io::Result<u32> {
+    let a = number(from)? as u32;
+    let b = number(from)? as u32;
+    Ok(a + 65536 * b)
 }
 
 // The next number of 64 bits, the lower bytes first.
-pub(crate) fn long() -> u64 {
-    let a = number() as u64;
-    let b = number() as u64;
-    let c = number() as u64;
-    let d = number() as u64;
-    a + 65536 * b + 4294967296 * c + 281474976710656 * d
+pub(crate) fn long<R: Read>(from: &mut R) -> io::Result<u64> {
+    let a = number(from)? as u64;
+    let b = number(from)? as u64;
+    let c = number(from)? as u64;
+    let d = number(from)? as u64;
+    Ok(a + 65536 * b + 4294967296 * c + 281474976710656 * d)
 }
 
-pub(crate) fn next_ask() -> Ask {
-    let code = number();
-    let text = number();
-    let lent = number() as usize;
-    let shown = number() as usize;
-    let run = number();
-    let a = number();
-    let b = number();
-    let x = long();
-    let sum_high = long();
-    let count_low = middle();
-    let count_high = middle();
-    Ask {
+pub(crate) fn next_ask<R: Read>(from: &mut R) -> io::Result<Ask> {
+    let code = number(from)?;
+    let text = number(from)?;
+    let lent = number(from)? as usize;
+    let shown = number(from)? as usize;
+    let run = number(from)?;
+    let a = number(from)?;
+    let b = number(from)?;
+    let x = long(from)?;
+    let sum_high = long(from)?;
+    let count_low = middle(from)?;
+    let count_high = middle(from)?;
+    Ok(Ask {
         code,
         text,
         lent,
@@ -74,30 +77,31 @@ pub(crate) fn next_ask() -> Ask {
         sum_high,
         count_low,
         count_high,
-    }
+    })
 }
 
 // The next text of the input, written as it stands.
-pub(crate) fn text(count: u16) {
+pub(crate) fn text<R: Read, W: Write>(from: &mut R, to: &mut W, count: u16) -> io::Result<()> {
     let size = count as usize;
     let mut space = [0u8; 512];
     let whole = &mut space[..];
     if size <= whole.len() {
         let line = &mut whole[0..size];
-        io::read_full(STDIN_FILENO, line);
-        io::write_all(STDOUT_FILENO, line);
+        read_full(from, line)?;
+        write_all(to, line)?;
     }
+    Ok(())
 }
 
-pub(crate) fn bytes(buf: &mut [u8]) {
-    io::read_full(STDIN_FILENO, buf);
+pub(crate) fn bytes<R: Read>(from: &mut R, buf: &mut [u8]) -> io::Result<()> {
+    read_full(from, buf)?;
+    Ok(())
 }
 
-pub(crate) fn marks(marks: &mut [u16]) {
-    let mut i: usize = 0;
-    while i < marks.len() {
-        let m = number();
+pub(crate) fn marks<R: Read>(from: &mut R, marks: &mut [u16]) -> io::Result<()> {
+    for i in 0..marks.len() {
+        let m = number(from)?;
         marks[i] = m;
-        i += 1;
     }
+    Ok(())
 }

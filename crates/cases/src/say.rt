@@ -1,12 +1,14 @@
 // A line of standard output: number, row and ring, the fields, and what lent memory holds.
 ghost use Rattle.std.specs.Prelude.{◌<◌};
 
-use libc::STDOUT_FILENO;
+use std::io;
+use std::io::Write;
+use streams::write_all;
 use tree::Refusal;
 
 // What an operation answers: as many fields as it has, of which one may be a weight, lifted by 2^33 (none where
 // `weight` is 4).
-#[derive(Drop)]
+#[derive(Clone, Copy)]
 pub(crate) struct Answer {
     pub(crate) number: u64,
     pub(crate) row: u64,
@@ -40,67 +42,66 @@ pub(crate) fn fine(many: usize, one: u64, two: u64) -> Answer {
     }
 }
 
-fn number(x: u64) {
-    io::write_all(STDOUT_FILENO, b" ");
-    io::print_decimal(STDOUT_FILENO, x);
+fn number<W: Write>(to: &mut W, x: u64) -> io::Result<()> {
+    write!(to, " {x}")
 }
 
-fn lifted(x: u64) {
+fn lifted<W: Write>(to: &mut W, x: u64) -> io::Result<()> {
     if x < 8589934592 {
-        io::write_all(STDOUT_FILENO, b" -");
-        io::print_decimal(STDOUT_FILENO, 8589934592 - x);
+        write!(to, " -{}", 8589934592 - x)
     } else {
-        number(x - 8589934592);
+        number(to, x - 8589934592)
     }
 }
 
-fn field(a: Answer, i: usize)
+fn field<W: Write>(to: &mut W, a: Answer, i: usize) -> io::Result<()>
     requires { i < 4 }
 {
     let fields = a.fields;
     if i < a.many {
         if i == a.weight {
-            lifted(fields[i]);
+            lifted(to, fields[i])?;
         } else {
-            number(fields[i]);
+            number(to, fields[i])?;
         }
     }
+    Ok(())
 }
 
 // The answer on its line, which goes on.
-fn told(a: Answer) {
-    number(a.number);
-    number(a.row);
-    number(a.ring);
-    field(a, 0);
-    field(a, 1);
-    field(a, 2);
-    field(a, 3);
+fn told<W: Write>(to: &mut W, a: Answer) -> io::Result<()> {
+    number(to, a.number)?;
+    number(to, a.row)?;
+    number(to, a.ring)?;
+    field(to, a, 0)?;
+    field(to, a, 1)?;
+    field(to, a, 2)?;
+    field(to, a, 3)
 }
 
-pub(crate) fn line(a: Answer) {
-    told(a);
-    io::write_all(STDOUT_FILENO, b"\n");
+pub(crate) fn line<W: Write>(to: &mut W, a: Answer) -> io::Result<()> {
+    told(to, a)?;
+    write_all(to, b"\n")
 }
 
 // The answer on a line that shows lent memory: its first elements, as many as are to be shown, and the sum over all.
-fn begun(a: Answer) {
-    told(a);
-    io::write_all(STDOUT_FILENO, b" now");
+fn begun<W: Write>(to: &mut W, a: Answer) -> io::Result<()> {
+    told(to, a)?;
+    write_all(to, b" now")
 }
 
-fn sum(s: u64) {
-    io::write_all(STDOUT_FILENO, b" sum");
-    number(s);
-    io::write_all(STDOUT_FILENO, b"\n");
+fn sum<W: Write>(to: &mut W, s: u64) -> io::Result<()> {
+    write_all(to, b" sum")?;
+    number(to, s)?;
+    write_all(to, b"\n")
 }
 
 // One element more: it is shown where it stands among the first, and joins the sum.
-fn more(s: u64, x: u64, show: bool) -> u64 {
+fn more<W: Write>(to: &mut W, s: u64, x: u64, show: bool) -> io::Result<u64> {
     if show {
-        number(x);
+        number(to, x)?;
     }
-    ((s % 4294967291) * 257 + x % 65536) % 4294967291
+    Ok(((s % 4294967291) * 257 + x % 65536) % 4294967291)
 }
 
 fn wide(x: u8) -> u64 {
@@ -111,24 +112,20 @@ fn long(x: u16) -> u64 {
     x as u64
 }
 
-pub(crate) fn bytes(a: Answer, m: &[u8], shown: usize) {
-    begun(a);
+pub(crate) fn bytes<W: Write>(to: &mut W, a: Answer, m: &[u8], shown: usize) -> io::Result<()> {
+    begun(to, a)?;
     let mut s: u64 = 1;
-    let mut i: usize = 0;
-    while i < m.len() {
-        s = more(s, wide(m[i]), i < shown);
-        i += 1;
+    for i in 0..m.len() {
+        s = more(to, s, wide(m[i]), i < shown)?;
     }
-    sum(s);
+    sum(to, s)
 }
 
-pub(crate) fn words(a: Answer, m: &[u16], shown: usize) {
-    begun(a);
+pub(crate) fn words<W: Write>(to: &mut W, a: Answer, m: &[u16], shown: usize) -> io::Result<()> {
+    begun(to, a)?;
     let mut s: u64 = 1;
-    let mut i: usize = 0;
-    while i < m.len() {
-        s = more(s, long(m[i]), i < shown);
-        i += 1;
+    for i in 0..m.len() {
+        s = more(to, s, long(m[i]), i < shown)?;
     }
-    sum(s);
+    sum(to, s)
 }

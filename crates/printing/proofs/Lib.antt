@@ -1,1 +1,2 @@
--- No law is this crate's own: it cites reporting's.
+-- Laws of a report that is printed a piece at a time; what a report is is reporting's.
+pub mod Gone

@@ -1,7 +1,14 @@
 // What has been handed over to the system: the two functions that write, and how far they have come.
-ghost use Rattle.std.specs.Prelude.{◌+◌, ◌≤◌, ◌≡◌, length, take};
+ghost use Rattle.std.specs.Prelude.{◌+◌, ◌≤◌, ◌≡◌, IfOk, OnErr, OnOk, length, take};
+ghost use Rattle.std.specs.Io.KnownBytes.{Appends};
+ghost use Rattle.streams.specs.Front.{HasWritten};
+ghost use Rattle.printing.specs.Printed.{PrintsWith, PrintsFrontWith};
 ghost use Rattle.reporting.specs.Report.{Next};
 ghost use Rattle.reporting.specs.With.{ReportWith, WholeWith};
+
+use std::io;
+use std::io::Write;
+use streams::write_all;
 
 // How many bytes of the report have been handed over. The field is private, so that the two functions below alone raise
 // it: a report of which a part was left out does not come to its end.
@@ -16,23 +23,39 @@ pub(crate) fn nothing() -> Handed
     Handed { place: 0 }
 }
 
-// The first n bytes to standard output: they are those of the table's report from where it stands. That the system
-// writes what it is handed, in order, is not proved.
-pub(crate) fn hand_over(s: &[u8], out: &[u8], n: usize, handed: Handed) -> Handed
+// The first n bytes to the writer: they are those of the table's report from where it stands. That the system writes
+// what its standard output is handed, in order, is not proved. After an error a front of them has been handed over, and
+// there is no outcome to go on with.
+pub(crate) fn hand_over<W: Write>(
+    to: &mut W,
+    s: &[u8],
+    out: &[u8],
+    n: usize,
+    handed: Handed,
+) -> io::Result<Handed>
     requires { (n ≤ length out.now) × Next s.now handed.place (take n out.now) }
-    ensures { result.place ≡ handed.place + n }
+    ensures counted { IfOk result (λ after. after.place ≡ handed.place + n) }
+    ensures written { OnOk result (Appends (W.contents to.old) (W.contents to.new) (take n out.now)) }
+    ensures err { OnErr result (HasWritten (W.contents to.old) (W.contents to.new) (take n out.now)) }
 {
-    io::write_all(libc::STDOUT_FILENO, &out[..n]);
-    Handed {
+    write_all(to, &out[..n])?;
+    Ok(Handed {
         place: handed.place + n,
-    }
+    })
 }
 
-// A line to standard output that is the whole report of a table with a change set, as where the set is refused.
-pub(crate) fn hand_over_line(table: &[u8], changes: &[u8], line: &[u8]) -> Handed
+// A line to the writer that is the whole report of a table with a change set, as where the set is refused.
+pub(crate) fn hand_over_line<W: Write>(
+    to: &mut W,
+    table: &[u8],
+    changes: &[u8],
+    line: &[u8],
+) -> io::Result<Handed>
     requires { ReportWith table.now changes.now line.now }
-    ensures { WholeWith table.now changes.now result.place }
+    ensures counted { IfOk result (λ handed. WholeWith table.now changes.now handed.place) }
+    ensures written { OnOk result (PrintsWith table.now changes.now (W.contents to.old) (W.contents to.new)) }
+    ensures err { OnErr result (PrintsFrontWith table.now changes.now (W.contents to.old) (W.contents to.new)) }
 {
-    io::write_all(libc::STDOUT_FILENO, line);
-    Handed { place: line.len() }
+    write_all(to, line)?;
+    Ok(Handed { place: line.len() })
 }

@@ -1,10 +1,14 @@
 // The program behind ./report TABLE CHANGES: the report of a table with a change set, to standard output. The crate
 // reporting says what that is. Standard input has a head of 8 bytes, the sizes of the table and of the set (four bytes
 // each, lowest first), and then the two. Of an input that is longer than there is room for, or shorter than said,
-// nothing is handed over.
+// nothing is handed over. A read or a write that fails ends it with that error.
+#![tactic(auto)]
+
 ghost use Rattle.std.specs.Prelude.{◌<◌, ◌≡◌};
 
-use libc::STDIN_FILENO;
+use std::io;
+use std::io::{Read, Write};
+use streams::{large_buffer, read_full};
 
 // The largest table and one byte more: enough to refuse a longer one.
 fn table_space() -> [u8; 49153] {
@@ -34,39 +38,58 @@ fn number(a: u8, b: u8, c: u8, d: u8) -> usize
 }
 
 // Whether the next bytes of standard input, as many as the input has, are there.
-fn filled(input: &mut [u8]) -> bool {
-    io::read_full(STDIN_FILENO, input) == input.len()
+fn filled<R: Read>(from: &mut R, input: &mut [u8]) -> io::Result<bool> {
+    let n = read_full(from, input)?;
+    Ok(n == input.len())
 }
 
-fn show(table: &mut [u8], changes: &mut [u8]) {
-    if filled(table) {
-        if filled(changes) {
+fn show<R: Read, W: Write>(
+    from: &mut R,
+    to: &mut W,
+    table: &mut [u8],
+    changes: &mut [u8],
+) -> io::Result<()> {
+    if filled(from, table)? {
+        if filled(from, changes)? {
             let mut rows = page_space();
-            let mut out = io::large_buffer();
-            printing::print_with(table, changes, &mut rows, &mut out);
+            let mut out = large_buffer();
+            printing::print_with(to, table, changes, &mut rows, &mut out)?;
         }
     }
+    Ok(())
 }
 
-fn with_sizes(a: usize, b: usize, table: &mut [u8], changes: &mut [u8]) {
+fn with_sizes<R: Read, W: Write>(
+    from: &mut R,
+    to: &mut W,
+    a: usize,
+    b: usize,
+    table: &mut [u8],
+    changes: &mut [u8],
+) -> io::Result<()> {
     if a <= table.len() {
         if b <= changes.len() {
             let one = &mut table[0..a];
             let two = &mut changes[0..b];
-            show(one, two);
+            show(from, to, one, two)?;
         }
     }
+    Ok(())
 }
 
-fn main() {
+fn main(rt: HostRuntime) -> io::Result<()> {
+    let mut from = rt.stdin();
+    let mut to = rt.stdout();
     let mut h = [0u8; 8];
-    io::read_full(STDIN_FILENO, &mut h);
+    read_full(&mut from, &mut h)?;
     let mut table = table_space();
     let mut changes = set_space();
     with_sizes(
+        &mut from,
+        &mut to,
         number(h[0], h[1], h[2], h[3]),
         number(h[4], h[5], h[6], h[7]),
         &mut table,
         &mut changes,
-    );
+    )
 }

@@ -4,10 +4,12 @@ use mathlib.Core.Path.{◌≡◌, refl, ap}
 use mathlib.Core.List.{List, [], ◌∷◌, ◌++◌}
 use native.Mathlib.Omega.{arith}
 use lib.ListN.{length, take, length-append}
+use Rattle.std.proofs.Common.{Option, Result, Ok, Err, OnErr}
+use Rattle.streams.specs.Front.{HasWritten}
 use Rattle.text.specs.work.Put.{Put}
 use Rattle.text.proofs.Puts.{put_front}
 use Rattle.lines.specs.Lines.{total_text}
-use Rattle.trade.specs.Told.{sized, Tells, HandedOver}
+use Rattle.trade.specs.Told.{sized, Tells, HandedOver, WritesFront}
 
 nothing_after : (l : List ℕ) → l ++ [] ≡ l
 nothing_after [] = refl
@@ -39,3 +41,10 @@ module _ (way : ℕ) (first second : List ℕ) (bound : ℕ) where
         tells = t;
         all = omega (arith, e, f, length-append (a ++ b) (c ++ d), length-append a b, length-append c d);
       }
+
+  -- what was written of it where an error came
+  pub front_told : {T E : Type 0} (r : Result T E) (old new : Option (List ℕ)) (t : List ℕ)
+      → Tells way first second bound t → HasWritten old new t
+      → OnErr r (WritesFront way first second bound old new)
+  front_told (Ok x) old new t p q = tt
+  front_told (Err e) old new t p q = (t, p, q)

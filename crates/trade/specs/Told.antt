@@ -1,6 +1,8 @@
 -- What the program hands over to be written: of a reading the table, of a writing the two texts, each after a line with
 -- its size; of a refusal its line.
-use Rattle.std.specs.Prelude.{ℕ, ◌+◌, ◌≤◌, ◌≡◌, List, ◌++◌, length, take}
+use Rattle.std.specs.Prelude.{ℕ, ◌+◌, ◌≤◌, ◌≡◌, List, ◌++◌, length, take, Option}
+use Rattle.std.specs.Io.KnownBytes.{Appends}
+use Rattle.streams.specs.Front.{HasWritten}
 use Rattle.lines.specs.Lines.{refused_text, total_text}
 use Rattle.dimacs.specs.Read.{ReadOf}
 use Rattle.dimacs.specs.Write.{Wrote, WriteOf}
@@ -35,3 +37,12 @@ pub record HandedOver (way : ℕ) (first second : List ℕ) (bound a b : ℕ) : 
   pub text : List ℕ
   pub tells : Tells way first second bound text
   pub all : a + b ≡ length text
+
+-- a writer whose bytes are known has, behind those that it had, the whole of what tells the outcome
+abbrev pub Writes : ℕ → List ℕ → List ℕ → ℕ → Option (List ℕ) → Option (List ℕ) → Type 0
+Writes way first second bound old new = (text : List ℕ) × Tells way first second bound text × Appends old new text
+
+-- it has a front of that, as where an error came
+abbrev pub WritesFront : ℕ → List ℕ → List ℕ → ℕ → Option (List ℕ) → Option (List ℕ) → Type 0
+WritesFront way first second bound old new =
+    (text : List ℕ) × Tells way first second bound text × HasWritten old new text

@@ -1,8 +1,10 @@
 // What is handed over to the system: the one function that writes, and how much it has handed over.
-ghost use Rattle.std.specs.Prelude.{◌++◌};
-ghost use Rattle.trade.specs.Told.{Tells, HandedOver};
+ghost use Rattle.std.specs.Prelude.{◌++◌, IfOk, OnErr, OnOk};
+ghost use Rattle.trade.specs.Told.{Tells, HandedOver, Writes, WritesFront};
 
-use libc::STDOUT_FILENO;
+use std::io;
+use std::io::Write;
+use streams::write_both;
 
 // How many bytes have been handed over, in two parts. The fields are private, so that `hand_over` alone makes one: an
 // outcome of which something was left out has more bytes.
@@ -13,8 +15,10 @@ pub(crate) struct Handed {
 }
 
 // A line and some bytes, another line and some bytes, any of which may be empty: one after the other they tell the
-// outcome of what is asked. That the system writes what it is handed, in order, is not proved.
-pub(crate) fn hand_over(
+// outcome of what is asked. That the system writes what its standard output is handed, in order, is not proved; a writer
+// whose bytes are known has them all, or after an error a front of them.
+pub(crate) fn hand_over<W: Write>(
+    to: &mut W,
     way: u8,
     first: &[u8],
     second: &[u8],
@@ -23,16 +27,16 @@ pub(crate) fn hand_over(
     bytes: &[u8],
     other: &[u8],
     more: &[u8],
-) -> Handed
+) -> io::Result<Handed>
     requires { Tells way first.now second.now bound ((line.now ++ bytes.now) ++ (other.now ++ more.now)) }
-    ensures { HandedOver way first.now second.now bound result.one result.two }
+    ensures counted { IfOk result (λ handed. HandedOver way first.now second.now bound handed.one handed.two) }
+    ensures written { OnOk result (Writes way first.now second.now bound (W.contents to.old) (W.contents to.new)) }
+    ensures err { OnErr result (WritesFront way first.now second.now bound (W.contents to.old) (W.contents to.new)) }
 {
-    io::write_all(STDOUT_FILENO, line);
-    io::write_all(STDOUT_FILENO, bytes);
-    io::write_all(STDOUT_FILENO, other);
-    io::write_all(STDOUT_FILENO, more);
-    Handed {
+    write_both(to, line, bytes)?;
+    write_both(to, other, more)?;
+    Ok(Handed {
         one: line.len() + bytes.len(),
         two: other.len() + more.len(),
-    }
+    })
 }

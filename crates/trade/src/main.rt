@@ -1,13 +1,18 @@
 // The program behind ./dimacs: two road-graph texts become a table, or a table two such texts. Standard input has a
 // head of 13 bytes, the way (1 read, 2 write), the wire bound and the sizes of two inputs (four bytes each, lowest
 // first), and then the inputs: the texts with lengths and with weights, or a table and nothing. What is handed over is
-// in specs/Told. Of an input that is longer than there is room for, or shorter than said, nothing is.
+// in specs/Told. Of an input that is longer than there is room for, or shorter than said, nothing is. A read
+// or a write that fails ends it with that error.
+#![tactic(auto)]
+
 mod handed;
 mod trading;
 
 ghost use Rattle.std.specs.Prelude.{◌<◌, ◌≡◌};
 
-use libc::STDIN_FILENO;
+use std::io;
+use std::io::{Read, Write};
+use streams::read_full;
 
 // 1 MB for a text, twice; and what a table of such texts takes at most. The system gives a program 8 MB of stack.
 fn input_space() -> [u8; 1048576] {
@@ -39,22 +44,25 @@ fn number(a: u8, b: u8, c: u8, d: u8) -> usize
 }
 
 // Whether the next bytes of standard input, as many as the input has, are there.
-fn filled(input: &mut [u8]) -> bool {
-    io::read_full(STDIN_FILENO, input) == input.len()
+fn filled<R: Read>(from: &mut R, input: &mut [u8]) -> io::Result<bool> {
+    let n = read_full(from, input)?;
+    Ok(n == input.len())
 }
 
-fn read(lengths: &[u8], weights: &[u8], bound: u32) {
+fn read<W: Write>(to: &mut W, lengths: &[u8], weights: &[u8], bound: u32) -> io::Result<()> {
     let mut table = table_space();
     let mut line = line_space();
-    trading::read(lengths, weights, bound, &mut table, &mut line);
+    trading::read(to, lengths, weights, bound, &mut table, &mut line)?;
+    Ok(())
 }
 
-fn write(s: &[u8], second: &[u8], bound: u32) {
+fn write<W: Write>(to: &mut W, s: &[u8], second: &[u8], bound: u32) -> io::Result<()> {
     let mut lengths = text_space();
     let mut weights = text_space();
     let mut line = line_space();
     let mut other = line_space();
     trading::write(
+        to,
         s,
         second,
         bound,
@@ -62,47 +70,70 @@ fn write(s: &[u8], second: &[u8], bound: u32) {
         &mut weights,
         &mut line,
         &mut other,
-    );
+    )?;
+    Ok(())
 }
 
-fn trade(way: u8, bound: usize, first: &mut [u8], second: &mut [u8])
+fn trade<R: Read, W: Write>(
+    from: &mut R,
+    to: &mut W,
+    way: u8,
+    bound: usize,
+    first: &mut [u8],
+    second: &mut [u8],
+) -> io::Result<()>
     requires { bound < 4294967296 }
 {
-    if filled(first) {
-        if filled(second) {
+    if filled(from, first)? {
+        if filled(from, second)? {
             if way == 1 {
-                read(first, second, bound as u32);
+                read(to, first, second, bound as u32)?;
             }
             if way == 2 {
-                write(first, second, bound as u32);
+                write(to, first, second, bound as u32)?;
             }
         }
     }
+    Ok(())
 }
 
-fn with_inputs(way: u8, bound: usize, a: usize, b: usize, first: &mut [u8], second: &mut [u8])
+fn with_inputs<R: Read, W: Write>(
+    from: &mut R,
+    to: &mut W,
+    way: u8,
+    bound: usize,
+    a: usize,
+    b: usize,
+    first: &mut [u8],
+    second: &mut [u8],
+) -> io::Result<()>
     requires { bound < 4294967296 }
 {
     if a <= first.len() {
         if b <= second.len() {
             let one = &mut first[0..a];
             let two = &mut second[0..b];
-            trade(way, bound, one, two);
+            trade(from, to, way, bound, one, two)?;
         }
     }
+    Ok(())
 }
 
-fn main() {
+fn main(rt: HostRuntime) -> io::Result<()> {
+    let mut from = rt.stdin();
+    let mut to = rt.stdout();
     let mut h = [0u8; 13];
-    io::read_full(STDIN_FILENO, &mut h);
+    read_full(&mut from, &mut h)?;
     let mut first = input_space();
     let mut second = input_space();
     with_inputs(
+        &mut from,
+        &mut to,
         h[0],
         number(h[1], h[2], h[3], h[4]),
         number(h[5], h[6], h[7], h[8]),
         number(h[9], h[10], h[11], h[12]),
         &mut first,
         &mut second,
-    );
+    )
 }

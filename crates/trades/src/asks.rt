@@ -4,9 +4,18 @@ ghost use Rattle.std.specs.Prelude.{◌<◌};
 use crate::read::Ask;
 use crate::{read, say};
 use dimacs::WriteAnswer;
+use std::io;
+use std::io::{Read, Write};
 
 // Two texts read into as many bytes as are lent, and what came of it.
-fn reading(lengths: &[u8], weights: &[u8], bound: usize, room: usize, shown: usize)
+fn reading<W: Write>(
+    to: &mut W,
+    lengths: &[u8],
+    weights: &[u8],
+    bound: usize,
+    room: usize,
+    shown: usize,
+) -> io::Result<()>
     requires { bound < 4294967296 }
 {
     let mut space = [165u8; 200000];
@@ -14,18 +23,26 @@ fn reading(lengths: &[u8], weights: &[u8], bound: usize, room: usize, shown: usi
     if room <= whole.len() {
         let table = &mut whole[0..room];
         let o = dimacs::read(lengths, weights, bound as u32, table);
-        say::made(o, table, shown);
+        say::made(to, o, table, shown)?;
     }
+    Ok(())
 }
 
 // What was written is shown, and read back into as many bytes as the table has.
-fn back(s: &[u8], lengths: &[u8], weights: &[u8], bound: usize, shown: usize)
+fn back<W: Write>(
+    to: &mut W,
+    s: &[u8],
+    lengths: &[u8],
+    weights: &[u8],
+    bound: usize,
+    shown: usize,
+) -> io::Result<()>
     requires { bound < 4294967296 }
 {
-    say::text(lengths, shown);
-    say::text(weights, shown);
-    say::back();
-    reading(lengths, weights, bound, s.len(), shown);
+    say::text(to, lengths, shown)?;
+    say::text(to, weights, shown)?;
+    say::back(to)?;
+    reading(to, lengths, weights, bound, s.len(), shown)
 }
 
 // Both texts of a table, or of the table with its change set, into what is lent for each.
@@ -37,11 +54,18 @@ fn texts(s: &[u8], set: &[u8], lengths: &mut [u8], weights: &mut [u8], q: Ask) -
 }
 
 // These, and where nothing is refused they are read back.
-fn writing(s: &[u8], set: &[u8], lengths: &mut [u8], weights: &mut [u8], q: Ask)
+fn writing<W: Write>(
+    to: &mut W,
+    s: &[u8],
+    set: &[u8],
+    lengths: &mut [u8],
+    weights: &mut [u8],
+    q: Ask,
+) -> io::Result<()>
     requires { q.x < 4294967296 }
 {
     let o = texts(s, set, lengths, weights, q);
-    say::wrote(o, lengths, weights);
+    say::wrote(to, &o, lengths, weights)?;
     match o {
         WriteAnswer::Refused(_) => {}
         WriteAnswer::Texts {
@@ -52,11 +76,12 @@ fn writing(s: &[u8], set: &[u8], lengths: &mut [u8], weights: &mut [u8], q: Ask)
                 if b <= weights.len() {
                     let long = &lengths[0..a];
                     let heavy = &weights[0..b];
-                    back(s, long, heavy, q.x, q.shown);
+                    back(to, s, long, heavy, q.x, q.shown)?;
                 }
             }
         }
     }
+    Ok(())
 }
 
 // Memory to lend for a text.
@@ -65,32 +90,47 @@ fn text_space() -> [u8; 400000] {
 }
 
 // Of it, as much as is lent.
-fn with_weights(s: &[u8], set: &[u8], lengths: &mut [u8], space: &mut [u8], q: Ask)
+fn with_weights<W: Write>(
+    to: &mut W,
+    s: &[u8],
+    set: &[u8],
+    lengths: &mut [u8],
+    space: &mut [u8],
+    q: Ask,
+) -> io::Result<()>
     requires { q.x < 4294967296 }
 {
     let room = q.z;
     if room <= space.len() {
         let weights = &mut space[0..room];
-        writing(s, set, lengths, weights, q);
+        writing(to, s, set, lengths, weights, q)?;
     }
+    Ok(())
 }
 
-fn with_lengths(s: &[u8], set: &[u8], space: &mut [u8], q: Ask)
+fn with_lengths<W: Write>(
+    to: &mut W,
+    s: &[u8],
+    set: &[u8],
+    space: &mut [u8],
+    q: Ask,
+) -> io::Result<()>
     requires { q.x < 4294967296 }
 {
     let room = q.y;
     if room <= space.len() {
         let lengths = &mut space[0..room];
         let mut other = text_space();
-        with_weights(s, set, lengths, &mut other, q);
+        with_weights(to, s, set, lengths, &mut other, q)?;
     }
+    Ok(())
 }
 
-fn written(s: &[u8], set: &[u8], q: Ask)
+fn written<W: Write>(to: &mut W, s: &[u8], set: &[u8], q: Ask) -> io::Result<()>
     requires { q.x < 4294967296 }
 {
     let mut space = text_space();
-    with_lengths(s, set, &mut space, q);
+    with_lengths(to, s, set, &mut space, q)
 }
 
 // A byte of an input is another one from here on.
@@ -100,15 +140,27 @@ fn change(input: &mut [u8], place: usize, byte: usize) {
     }
 }
 
-pub(crate) fn answer(first: &mut [u8], second: &mut [u8], q: Ask)
+pub(crate) fn answer<R: Read, W: Write>(
+    from: &mut R,
+    to: &mut W,
+    first: &mut [u8],
+    second: &mut [u8],
+    q: Ask,
+) -> io::Result<()>
     requires { q.x < 4294967296 }
 {
-    read::text(q.text);
+    read::text(from, to, q.text)?;
     let code = q.code;
     match code {
-        1 => reading(first, second, q.x, q.y, q.shown),
-        3 => change(first, q.x, q.y),
-        4 => change(second, q.x, q.y),
-        _ => written(first, second, q),
+        1 => reading(to, first, second, q.x, q.y, q.shown),
+        3 => {
+            change(first, q.x, q.y);
+            Ok(())
+        }
+        4 => {
+            change(second, q.x, q.y);
+            Ok(())
+        }
+        _ => written(to, first, second, q),
     }
 }

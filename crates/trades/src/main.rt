@@ -1,17 +1,28 @@
 // Reads and writes road-graph texts as the trades on standard input ask, and says what came of each; oracle/README.md
 // has the form of both. What it must write is what oracle/ says: of a hand-worked trade the answers in
-// oracle/roads.txt, of a random one what oracle/ computes.
+// oracle/roads.txt, of a random one what oracle/ computes. A read or a write that fails ends it with that error.
+#![tactic(auto)]
+
 mod asks;
 mod read;
 mod say;
 
+use std::io;
+use std::io::{Read, Write};
+
 // The asks of a trade, one after the other, on its two inputs.
-fn each(first: &mut [u8], second: &mut [u8], count: u16) {
-    let mut i: u16 = 0;
-    while i < count {
-        asks::answer(first, second, read::next_ask());
-        i += 1;
+fn each<R: Read, W: Write>(
+    from: &mut R,
+    to: &mut W,
+    first: &mut [u8],
+    second: &mut [u8],
+    count: u16,
+) -> io::Result<()> {
+    for _ in 0..count {
+        let ask = read::next_ask(from)?;
+        asks::answer(from, to, first, second, ask)?;
     }
+    Ok(())
 }
 
 // Memory for an input.
@@ -20,42 +31,60 @@ fn input_space() -> [u8; 400000] {
 }
 
 // Of it, as much as the input has.
-fn with_second(first: &mut [u8], space: &mut [u8], size: usize, asks: u16) {
+fn with_second<R: Read, W: Write>(
+    from: &mut R,
+    to: &mut W,
+    first: &mut [u8],
+    space: &mut [u8],
+    size: usize,
+    asks: u16,
+) -> io::Result<()> {
     if size <= space.len() {
         let second = &mut space[0..size];
-        read::bytes(second);
-        each(first, second, asks);
+        read::bytes(from, second)?;
+        each(from, to, first, second, asks)?;
     }
+    Ok(())
 }
 
-fn with_first(space: &mut [u8], size: usize, other: usize, asks: u16) {
+fn with_first<R: Read, W: Write>(
+    from: &mut R,
+    to: &mut W,
+    space: &mut [u8],
+    size: usize,
+    other: usize,
+    asks: u16,
+) -> io::Result<()> {
     if size <= space.len() {
         let first = &mut space[0..size];
-        read::bytes(first);
+        read::bytes(from, first)?;
         let mut more = input_space();
-        with_second(first, &mut more, other, asks);
+        with_second(from, to, first, &mut more, other, asks)?;
     }
+    Ok(())
 }
 
 // A trade: how much it has of each thing, then the things.
-fn trade() {
-    let text = read::short();
-    let asks = read::short();
-    let first = read::number();
-    let second = read::number();
-    read::text(text);
+fn trade<R: Read, W: Write>(from: &mut R, to: &mut W) -> io::Result<()> {
+    let text = read::short(from)?;
+    let asks = read::short(from)?;
+    let first = read::number(from)?;
+    let second = read::number(from)?;
+    read::text(from, to, text)?;
     let mut space = input_space();
-    with_first(&mut space, first, second, asks);
+    with_first(from, to, &mut space, first, second, asks)
 }
 
-fn trades(count: usize) {
-    let mut i: usize = 0;
-    while i < count {
-        trade();
-        i += 1;
+fn trades<R: Read, W: Write>(from: &mut R, to: &mut W, count: usize) -> io::Result<()> {
+    for _ in 0..count {
+        trade(from, to)?;
     }
+    Ok(())
 }
 
-fn main() {
-    trades(read::number());
+fn main(rt: HostRuntime) -> io::Result<()> {
+    let mut from = rt.stdin();
+    let mut to = rt.stdout();
+    let count = read::number(&mut from)?;
+    trades(&mut from, &mut to, count)
 }

@@ -1,10 +1,13 @@
-// Standard input: a trade's sizes, its inputs, its asks, all in the order in which they stand there.
-ghost use Rattle.std.specs.Prelude.{◌≡◌, ◌<◌};
+// Standard input: a trade's sizes, its inputs, its asks, all in the order in which they stand there. Where the input
+// ends, what is missing is zeros.
+ghost use Rattle.std.specs.Prelude.{◌≡◌, ◌<◌, IfOk};
 
-use libc::{STDIN_FILENO, STDOUT_FILENO};
+use std::io;
+use std::io::{Read, Write};
+use streams::{read_full, write_all};
 
 // An ask: its operation, how many bytes its text has, how much its lines show, and the operation's three numbers.
-#[derive(Drop)]
+#[derive(Clone, Copy)]
 pub(crate) struct Ask {
     pub(crate) code: u16,
     pub(crate) text: u16,
@@ -21,52 +24,54 @@ fn wide(x: u8) -> u16
 }
 
 // The next number of 16 bits, the lower byte first.
-pub(crate) fn short() -> u16 {
+pub(crate) fn short<R: Read>(from: &mut R) -> io::Result<u16> {
     let mut h = [0u8; 2];
-    io::read_full(STDIN_FILENO, &mut h);
-    wide(h[0]) + 256 * wide(h[1])
+    read_full(from, &mut h)?;
+    Ok(wide(h[0]) + 256 * wide(h[1]))
 }
 
 // The next number of 32 bits, the lower bytes first.
-pub(crate) fn number() -> usize
-    ensures { result < 4294967296 }
+pub(crate) fn number<R: Read>(from: &mut R) -> io::Result<usize>
+    ensures { IfOk result (λ x. x < 4294967296) }
 {
-    let a = short() as usize;
-    let b = short() as usize;
-    a + 65536 * b
+    let a = short(from)? as usize;
+    let b = short(from)? as usize;
+    Ok(a + 65536 * b)
 }
 
-pub(crate) fn next_ask() -> Ask
-    ensures { result.x < 4294967296 }
+pub(crate) fn next_ask<R: Read>(from: &mut R) -> io::Result<Ask>
+    ensures { IfOk result (λ ask. ask.x < 4294967296) }
 {
-    let code = short();
-    let text = short();
-    let shown = short() as usize;
-    let x = number();
-    let y = number();
-    let z = number();
-    Ask {
+    let code = short(from)?;
+    let text = short(from)?;
+    let shown = short(from)? as usize;
+    let x = number(from)?;
+    let y = number(from)?;
+    let z = number(from)?;
+    Ok(Ask {
         code,
         text,
         shown,
         x,
         y,
         z,
-    }
+    })
 }
 
 // The next text of the input, written as it stands.
-pub(crate) fn text(count: u16) {
+pub(crate) fn text<R: Read, W: Write>(from: &mut R, to: &mut W, count: u16) -> io::Result<()> {
     let size = count as usize;
     let mut space = [0u8; 512];
     let whole = &mut space[..];
     if size <= whole.len() {
         let line = &mut whole[0..size];
-        io::read_full(STDIN_FILENO, line);
-        io::write_all(STDOUT_FILENO, line);
+        read_full(from, line)?;
+        write_all(to, line)?;
     }
+    Ok(())
 }
 
-pub(crate) fn bytes(buf: &mut [u8]) {
-    io::read_full(STDIN_FILENO, buf);
+pub(crate) fn bytes<R: Read>(from: &mut R, buf: &mut [u8]) -> io::Result<()> {
+    read_full(from, buf)?;
+    Ok(())
 }

@@ -1,27 +1,28 @@
 // Lines of standard output: a refusal's number, row and ring, the sizes, and what lent memory holds.
 use dimacs::{ReadAnswer, WriteAnswer};
-use libc::STDOUT_FILENO;
+use std::io;
+use std::io::Write;
+use streams::write_all;
 use tree::Refusal;
 
-fn word(w: &[u8]) {
-    io::write_all(STDOUT_FILENO, w);
+fn word<W: Write>(to: &mut W, w: &[u8]) -> io::Result<()> {
+    write_all(to, w)
 }
 
-fn number(x: usize) {
-    word(b" ");
-    io::print_decimal(STDOUT_FILENO, x as u64);
+fn number<W: Write>(to: &mut W, x: usize) -> io::Result<()> {
+    write!(to, " {x}")
 }
 
-fn refused(why: Refusal) {
-    number(why.number as usize);
-    number(why.row);
-    number(why.ring);
+fn refused<W: Write>(to: &mut W, why: &Refusal) -> io::Result<()> {
+    number(to, why.number as usize)?;
+    number(to, why.row)?;
+    number(to, why.ring)
 }
 
-fn fine() {
-    number(0);
-    number(0);
-    number(0);
+fn fine<W: Write>(to: &mut W) -> io::Result<()> {
+    number(to, 0)?;
+    number(to, 0)?;
+    number(to, 0)
 }
 
 fn wide(x: u8) -> usize {
@@ -29,76 +30,85 @@ fn wide(x: u8) -> usize {
 }
 
 // One byte more: it is shown where it stands among the first, and joins the sum.
-fn more(s: usize, x: usize, show: bool) -> usize {
+fn more<W: Write>(to: &mut W, s: usize, x: usize, show: bool) -> io::Result<usize> {
     if show {
-        number(x);
+        number(to, x)?;
     }
-    ((s % 4294967291) * 257 + x % 256) % 4294967291
+    Ok(((s % 4294967291) * 257 + x % 256) % 4294967291)
 }
 
-fn sum(s: usize) {
-    word(b" sum");
-    number(s);
+fn sum<W: Write>(to: &mut W, s: usize) -> io::Result<()> {
+    word(to, b" sum")?;
+    number(to, s)
 }
 
 // The lent bytes, as many of the first as are to be shown, and the sum over all.
-fn shows(m: &[u8], shown: usize) {
+fn shows<W: Write>(to: &mut W, m: &[u8], shown: usize) -> io::Result<()> {
     let mut s: usize = 1;
-    let mut i: usize = 0;
-    while i < m.len() {
-        s = more(s, wide(m[i]), i < shown);
-        i += 1;
+    for i in 0..m.len() {
+        s = more(to, s, wide(m[i]), i < shown)?;
     }
-    sum(s);
+    sum(to, s)
 }
 
 // The line of a reading, from what stands on it already on.
-pub(crate) fn made(o: ReadAnswer, table: &[u8], shown: usize) {
+pub(crate) fn made<W: Write>(
+    to: &mut W,
+    o: ReadAnswer,
+    table: &[u8],
+    shown: usize,
+) -> io::Result<()> {
     match o {
         ReadAnswer::Refused(why) => {
-            refused(why);
-            number(0);
+            refused(to, &why)?;
+            number(to, 0)?;
         }
         ReadAnswer::Table { size } => {
-            fine();
-            number(size);
+            fine(to)?;
+            number(to, size)?;
         }
     }
-    word(b" now");
-    shows(table, shown);
-    word(b"\n");
+    word(to, b" now")?;
+    shows(to, table, shown)?;
+    word(to, b"\n")
 }
 
 // The line of a writing.
-pub(crate) fn wrote(o: WriteAnswer, lengths: &[u8], weights: &[u8]) {
+pub(crate) fn wrote<W: Write>(
+    to: &mut W,
+    o: &WriteAnswer,
+    lengths: &[u8],
+    weights: &[u8],
+) -> io::Result<()> {
     match o {
         WriteAnswer::Refused(why) => {
-            refused(why);
-            number(0);
-            number(0);
+            refused(to, why)?;
+            number(to, 0)?;
+            number(to, 0)?;
         }
         WriteAnswer::Texts {
             lengths: a,
             weights: b,
         } => {
-            fine();
-            number(a);
-            number(b);
+            fine(to)?;
+            number(to, *a)?;
+            number(to, *b)?;
         }
     }
-    shows(lengths, 0);
-    shows(weights, 0);
-    word(b"\n");
+    shows(to, lengths, 0)?;
+    shows(to, weights, 0)?;
+    word(to, b"\n")
 }
 
 // A text as it was written, where it is no longer than what is to be shown.
-pub(crate) fn text(t: &[u8], shown: usize) {
+pub(crate) fn text<W: Write>(to: &mut W, t: &[u8], shown: usize) -> io::Result<()> {
     if t.len() <= shown {
-        word(t);
+        word(to, t)?;
     }
+    Ok(())
 }
 
 // What the line begins with that tells what was read back.
-pub(crate) fn back() {
-    word(b"back:");
+pub(crate) fn back<W: Write>(to: &mut W) -> io::Result<()> {
+    word(to, b"back:")
 }

@@ -1,0 +1,24 @@
+-- `print_with`: the changed table is written out, and its report handed over; where `write_in` refuses, the line that
+-- was put is the whole report with the set.
+use Rattle.std.proofs.lemmas.Result.{IfOk-weaker, on_ok_weaker, on_err_weaker}
+use Rattle.reporting.proofs.With.{line_with, whole_with}
+use Rattle.printing.proofs.Gone.{printed_with, front_with}
+use Rattle.printing.proofs.print_with.Goals as goal
+
+pub hand_over_line-requires : goal.hand_over_line-requires
+hand_over_line-requires g c = line_with _ _ _ c.if-k-ne0.true c.write_in-k.ensures c.refused-n.ensures.0
+
+pub returns-clause-counted : goal.returns-clause-counted
+returns-clause-counted g c =
+    let wrote = rw c.if-k-ne0.false at c.write_in-k.ensures in
+    IfOk-weaker _ _ _ (λ handed rest. whole_with _ _ _ wrote rest) c.print.ensures.counted
+
+pub returns-clause-written : goal.returns-clause-written
+returns-clause-written g c =
+    let wrote = rw c.if-k-ne0.false at c.write_in-k.ensures in
+    on_ok_weaker _ (printed_with _ _ _ wrote _ _) c.print.ensures.written
+
+pub returns-clause-err : goal.returns-clause-err
+returns-clause-err g c =
+    let wrote = rw c.if-k-ne0.false at c.write_in-k.ensures in
+    on_err_weaker _ (front_with _ _ _ wrote _ _) c.print.ensures.err

@@ -1,0 +1,2 @@
+-- What a reader must believe of this crate.
+pub mod Printed

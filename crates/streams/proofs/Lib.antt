@@ -1,0 +1,3 @@
+-- Laws of bytes that are read or written a part at a time.
+pub mod Filling
+pub mod Fronts
