@@ -37,14 +37,15 @@ asked_rows Within s marks floor {joined} {l} a w =
     many : length joined / 16 ≡ length l
     many = omega (arith, ap length (join_up (listing_lists Within s marks floor) a w), rows_length l)
 
-module _ (Within : ℕ → Type 0) (s marks : List ℕ) {floor lower : ℤ} (h : lower ≤ℤ floor) where
-  qualifies_too : (e : Entry) → Considered Within s marks (nodes_of s) floor e
-      → Considered Within s marks (nodes_of s) lower e
-  qualifies_too e = passes_map (λ q. q) (λ q. q) (λ k. ≤ℤ-trans h k)
+qualifies_too : (Within : ℕ → Type 0) (s marks : List ℕ) {floor lower : ℤ} → lower ≤ℤ floor → (e : Entry)
+    → Considered Within s marks (nodes_of s) floor e → Considered Within s marks (nodes_of s) lower e
+qualifies_too Within s marks h e = passes_map (λ q. q) (λ q. q) (λ k. ≤ℤ-trans h k)
 
+-- each rests on what qualifies alone, so that a wrong premise is refused in each
+module _ (Within : ℕ → Type 0) (s marks : List ℕ) {floor lower : ℤ} (h : lower ≤ℤ floor) where
   pub lower_floor_list : {l m : List Entry} → Listing (Considered Within s marks (nodes_of s) floor) l
       → Listing (Considered Within s marks (nodes_of s) lower) m → Sublist l m
-  lower_floor_list = listing_sublist qualifies_too
+  lower_floor_list = listing_sublist (qualifies_too Within s marks h)
 
   pub lower_floor_rows : {joined joined' : List ℕ} → Asks (ListingWithin Within s marks floor) 0 0 joined
       → Asks (ListingWithin Within s marks lower) 0 0 joined' → Sublist (rows_in joined) (rows_in joined')
@@ -52,7 +53,7 @@ module _ (Within : ℕ → Type 0) (s marks : List ℕ) {floor lower : ℤ} (h :
       let l = there_is (listing_lists Within s marks floor) a in
       let m = there_is (listing_lists Within s marks lower) b in
       rw (asked_rows Within s marks floor a l.1, asked_rows Within s marks lower b m.1)
-      (lower_floor_list l.1 m.1)
+      (listing_sublist (qualifies_too Within s marks h) l.1 m.1)
 
 -- where the first is a refusal, the second is the same
 abbrev Refuses : Listed × List ℕ → Type 0

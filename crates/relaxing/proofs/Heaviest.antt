@@ -78,16 +78,17 @@ module _ (Within Within' : ℕ → Type 0) (looser : (l : ℕ) → Within l → 
   looser_no_worse =
       compared 16 NoWorse (λ x y. not_less) Within Within' s marks marks refl covers (λ _. turning_up)
 
+weighed : (Within : ℕ → Type 0) (s marks marks' : List ℕ) → Freer marks marks'
+    → Covered (PairsWithin Within s marks (nodes_of s)) (PairsWithin Within s marks' (nodes_of s))
+weighed Within s marks marks' f e p = (
+  under s marks marks' (nodes_of s) e p,
+  under_passes s marks marks' (nodes_of s) e p,
+  under_keeps s marks marks' (nodes_of s) e p f,
+)
+
 -- freer marks, under any length test: the same pairs are within it, so none turns up
 module _ (none : ℕ) (Within : ℕ → Type 0) (s marks marks' : List ℕ) (f : Freer marks marks')
     (many : length marks ≡ length marks') where
-  weighed : Covered (PairsWithin Within s marks (nodes_of s)) (PairsWithin Within s marks' (nodes_of s))
-  weighed e p = (
-    under s marks marks' (nodes_of s) e p,
-    under_passes s marks marks' (nodes_of s) e p,
-    under_keeps s marks marks' (nodes_of s) e p f,
-  )
-
   found_both : ¬ Some (PairsWithin Within s marks (nodes_of s)) → (y : HeaviestAnswer)
       → GivesHeaviest (PairsWithin Within s marks' (nodes_of s)) y → NotLess (heaviest_refusal none 0 0) y
   found_both m (Between a b l w) q =
@@ -98,4 +99,5 @@ module _ (none : ℕ) (Within : ℕ → Type 0) (s marks marks' : List ℕ) (f :
 
   pub freer_not_less : (x y : HeaviestAnswer) → HeaviestWithin none Within s marks x
       → HeaviestWithin none Within s marks' y → NotLess x y
-  freer_not_less = compared none NotLess (λ x y p. p) Within Within s marks marks' many weighed found_both
+  freer_not_less = compared none NotLess (λ x y p. p) Within Within s marks marks' many
+      (weighed Within s marks marks' f) found_both

@@ -1,6 +1,8 @@
 -- `print_with`: the changed table is written out, and its report handed over; where `write_in` refuses, the line that
 -- was put is the whole report with the set.
+use Rattle.std.proofs.Common.{arith}
 use Rattle.std.proofs.lemmas.Result.{IfOk-weaker, on_ok_weaker, on_err_weaker}
+use Rattle.changeset.proofs.Withs.{written_fits, written_long}
 use Rattle.reporting.proofs.With.{line_with, whole_with}
 use Rattle.printing.proofs.Gone.{printed_with, front_with}
 use Rattle.printing.proofs.print_with.Goals as goal
@@ -22,3 +24,11 @@ pub returns-clause-err : goal.returns-clause-err
 returns-clause-err g c =
     let wrote = rw c.if-k-ne0.false at c.write_in-k.ensures in
     on_err_weaker _ (front_with _ _ _ wrote _ _) c.print.ensures.err
+
+pub slice_bounds-buffer-end : goal.slice_bounds-buffer-end
+slice_bounds-buffer-end g c =
+    omega (arith, written_fits c.args.table.now c.args.changes.now _ (rw c.if-k-ne0.false at c.write_in-k.ensures))
+
+pub slice_bounds-print-end : goal.slice_bounds-print-end
+slice_bounds-print-end g c =
+    written_long c.args.table.now c.args.changes.now _ (rw c.if-k-ne0.false at c.write_in-k.ensures)
