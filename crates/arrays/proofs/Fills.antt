@@ -4,7 +4,6 @@ use mathlib.Core.Path.{◌≡◌, sym, ◌∙◌}
 use mathlib.Core.List.{List}
 use lib.ListN.{replicate, length-replicate, get_or-replicate}
 use lib.Seq.{ext_get_or}
-use Rattle.arrays.specs.At.{at}
 use Rattle.arrays.specs.work.Filled.{Filled}
 
 pub filled : (m v : ℕ) → Filled m v (replicate m v)

@@ -8,7 +8,6 @@ use Prim.Native.Nat.{ℕ, ◌+◌, ◌-◌, ◌*◌, ◌≤◌, ◌<◌}
 use native.Mathlib.Omega.{arith}
 use lib.Dec.{eqb}
 use lib.IntN.{pos, ◌*ℤ◌}
-use lib.ListN.{length}
 use mir.Syntax.{w32}
 use mir.Val.{to_z}
 use Rattle.table.specs.Bound.{SameButBound}

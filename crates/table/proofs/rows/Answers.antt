@@ -1,6 +1,5 @@
 use Rattle.table.specs.Refuse.{bad, fine}
 use borrow.Author.Count.{below_more}
-use Prim.Native.Nat.{◌-◌}
 use mathlib.Core.Path.{refl}
 use native.Mathlib.Omega.{arith}
 use Rattle.table.proofs.rows.Goals as goal

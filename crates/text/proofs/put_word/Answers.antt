@@ -1,4 +1,3 @@
-use Prim.Native.Nat.{◌-◌}
 use native.Mathlib.Omega.{arith}
 use Rattle.text.proofs.Writing.{wording_none, wording_more, wording_done}
 use Rattle.text.proofs.put_word.Goals as goal

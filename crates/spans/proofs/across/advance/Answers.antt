@@ -1,4 +1,3 @@
-use Prim.Native.Nat.{◌-◌}
 use native.Mathlib.Omega.{arith}
 use Rattle.spans.proofs.Joining.{sofar_more, going_none, going_more, going_stop, going_end}
 use Rattle.spans.proofs.across.advance.Goals as goal

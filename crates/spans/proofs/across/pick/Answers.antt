@@ -1,9 +1,6 @@
 -- `spans::pick` meets its contract: the farther is taken, or the two are equally far, or it does not count.
-use mathlib.Core.Path.{sym, ◌∙◌}
-use mathlib.Core.Bool.{false≢true}
-use mathlib.Core.Logic.{⊎_elim}
 use native.Mathlib.Omega.{arith}
-use Rattle.spans.proofs.Order.{picked_far, picked_level}
+use Rattle.spans.proofs.Order.{picked_far}
 use Rattle.spans.proofs.across.pick.Goals as goal
 
 pub returns-then-d-new : goal.returns-then-d-new

@@ -1,8 +1,7 @@
 -- `spans::try_pair` meets its contract: nothing is offered before a partner was passed, else the pair with the lower
 -- name first.
 use native.Mathlib.Omega.{arith}
-use Rattle.spans.proofs.Joining.{tried_none, tried_low, tried_high}
-use borrow.Author.Tests.{not-true, not-false}
+use Rattle.spans.proofs.Joining.{tried_none}
 use Rattle.spans.proofs.across.try_pair.Goals as goal
 
 pub returns-then-j-m : goal.returns-then-j-m
