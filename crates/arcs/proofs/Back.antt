@@ -9,7 +9,6 @@ use native.Mathlib.Omega.{arith}
 use native.Mathlib.Decide.{ℕ_discrete}
 use lib.ListN.{length, get_or, length-append, get_or-append}
 use lib.Seq.{get_or_at}
-use Rattle.arrays.specs.At.{at}
 use Rattle.roads.specs.Text.{Arc, Said}
 use Rattle.arcs.specs.Arcs.{Arcs, no_arc, arcs_of, Opposite, Paired, AlongBranch, Names, SameBranches}
 use Rattle.arcs.specs.Made.{

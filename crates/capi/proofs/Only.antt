@@ -78,7 +78,8 @@ hb_listing_only s marks floor low high old = shows_only listing_in_c (listing_on
 
 pub hb_listing_exact_only : (s marks : List ℕ) (floor : ℤ) (low high : ℕ) (old : List ℕ)
     → Only (ListingExactCall s marks floor low high old)
-hb_listing_exact_only s marks floor low high old = shows_only listing_in_c (listing_exact_only s marks floor low high old)
+hb_listing_exact_only s marks floor low high old = shows_only listing_in_c
+    (listing_exact_only s marks floor low high old)
 
 pub hb_window_only : (s marks : List ℕ) (w : Window) → Only (WindowCall s marks w)
 hb_window_only s marks w = shows_only window_in_c (window_only s marks w)

@@ -233,7 +233,8 @@ anywhere = record { low = omega arith; few = omega arith }
 pub mesh_low : (s : List ℕ) (x : MeshAnswer) → length s < 9223372036854775808 → MeshOf s x → MeshRoom x
 mesh_low s x h p =
     own C anywhere
-    (own C anywhere (own C anywhere (own C anywhere (own C anywhere (own C anywhere (by_row (by_row (after _ _ _ _)))))))) x
+    (own C anywhere (own C anywhere (own C anywhere (own C anywhere
+    (own C anywhere (by_row (by_row (after _ _ _ _)))))))) x
     p
   where
     C : MeshAnswer → Type 0

@@ -45,7 +45,8 @@ shows_window s marks a b x y o f g p e = shows o (handed (λ w. WindowOf s marks
 
 pub shows_window_list : (s marks : List ℕ) (a b : ℕ) (x y : ℤ) (low high : ℕ) (old : List ℕ) (o : Listed × List ℕ)
     {c : Call} → SFits w64 x → SFits w64 y
-    → WindowListOf s marks (window a b (to_z w64 (of_z w64 x)) (to_z w64 (of_z w64 y))) low high old o → c ≡ listing_in_c o
+    → WindowListOf s marks (window a b (to_z w64 (of_z w64 x)) (to_z w64 (of_z w64 y))) low high old o → c ≡
+    listing_in_c o
     → ShowsInC (WindowListOf s marks (window a b x y) low high old) listing_in_c c
 shows_window_list s marks a b x y low high old o f g p e =
     shows o (handed (λ w. WindowListOf s marks w low high old o) a b x y f g p) e

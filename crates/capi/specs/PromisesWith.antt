@@ -52,7 +52,8 @@ abbrev pub ListingWithCall : List ℕ → List ℕ → List ℕ → ℤ → ℕ 
 ListingWithCall s c marks floor low high old = ShowsInC (ListingWith s c marks floor low high old) listing_in_c
 
 abbrev pub ListingExactWithCall : List ℕ → List ℕ → List ℕ → ℤ → ℕ → ℕ → List ℕ → Call → Type 0
-ListingExactWithCall s c marks floor low high old = ShowsInC (ListingExactWith s c marks floor low high old) listing_in_c
+ListingExactWithCall s c marks floor low high old = ShowsInC (ListingExactWith s c marks floor low high old)
+    listing_in_c
 
 abbrev pub WindowWithCall : List ℕ → List ℕ → List ℕ → Window → Call → Type 0
 WindowWithCall s c marks w = ShowsInC (WindowWith s c marks w) window_in_c

@@ -1,5 +1,5 @@
-// The exports with a change set: each is the one of lib.rt, of the table with the set's rows written in. The set follows
-// the table.
+// The exports with a change set: each is the one of lib.rt, of the table with the set's rows written in. The set
+// follows the table.
 ghost use Rattle.std.specs.Prelude.{[]};
 ghost use Rattle.window.specs.Window.{window};
 ghost use Rattle.eight.specs.Call.{call};

@@ -1,6 +1,6 @@
 // Answers the cases on standard input, a line for each ask; oracle/README.md has the form of both. What it must write
-// is what oracle/ says: of a hand-worked case the answers in oracle/worked.txt, of a random one what oracle/ computes. A read or
-// a write that fails ends it with that error.
+// is what oracle/ says: of a hand-worked case the answers in oracle/worked.txt, of a random one what oracle/ computes.
+// A read or a write that fails ends it with that error.
 #![tactic(auto)]
 
 mod anew;

@@ -9,7 +9,7 @@ use Rattle.arrays.specs.At.{at}
 use Rattle.table.specs.Header.{nodes_of}
 use Rattle.table.proofs.Refusals.{by_unless}
 use Rattle.tree.proofs.Begins.{by_beginning}
-use Rattle.marks.specs.Mark.{free, spend, Free, HeldBy, RunNumber}
+use Rattle.marks.specs.Mark.{spend, Free, HeldBy, RunNumber}
 use Rattle.marks.proofs.Readings.{held?, held_not_free, spent_not_free, own_spent}
 use Rattle.marks.proofs.Weights.{Alike, Freer}
 use Rattle.changes.specs.Change.{change_refusal, Changes, Done, Settles, Commits, Aborts}

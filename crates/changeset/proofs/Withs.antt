@@ -2,7 +2,7 @@
 -- is refused an outcome is what the operation's promise allows of the changed table, both ways; a set of 6 bytes
 -- changes nothing; what holds of every refusal and of the operation's outcomes holds of every outcome; and how an
 -- operation that begins with `write_in` hands a refusal on, and goes on.
-use Prim.Native.Nat.{ℕ, ◌-◌, ◌≤◌}
+use Prim.Native.Nat.{ℕ, ◌≤◌}
 use mathlib.Core.Path.{◌≡◌, refl, sym, ap, ◌∙◌}
 use mathlib.Core.List.{List}
 use mathlib.Core.Bool.{true, false}
@@ -35,7 +35,8 @@ module _ {A : Type 0} (refuse : ℕ → ℕ → ℕ → A) (s c : List ℕ) {Pro
     where
       -- 33 and 34, and then the promise
       after : A → Type 0
-      after = Unless A (refuse 33 0 0) (Formed c) (Unless A (refuse 34 0 0) (RowsRise (nodes_of s) c) (Over s c Promise))
+      after = Unless A (refuse 33 0 0) (Formed c) (Unless A (refuse 34 0 0) (RowsRise (nodes_of s) c)
+          (Over s c Promise))
 
       over_only : Headed s → Only (Over s c Promise)
       over_only h a b j k =

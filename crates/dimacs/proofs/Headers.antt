@@ -1,5 +1,5 @@
 -- The header as bytes: its parts, stored one after the other; and what is read of it, whatever follows.
-use Prim.Native.Nat.{ℕ, ◌+◌, ◌%◌, ◌/◌, ◌<◌}
+use Prim.Native.Nat.{ℕ, ◌%◌, ◌/◌, ◌<◌}
 use mathlib.Core.Path.{◌≡◌, refl}
 use mathlib.Core.List.{List, ◌++◌}
 use native.Mathlib.Omega.{arith}

@@ -22,7 +22,8 @@ table_size n bound r = omega (arith, length-append (header_bytes n bound) r, hea
 decided : {A : Type 0} (refuse : ℕ → ℕ → ℕ → A) {rest : A → Type 0} (t : List ℕ) (n k : ℕ) → nodes_of t ≡ n
     → byte_at t 7 ≡ 0 → 49152 < length t → ((1 ≤ n) × (n ≤ 4096) → k ≡ 6) → (((1 ≤ n) × (n ≤ 4096) → ⊥) → k ≡ 4)
     → Unless A (refuse 4 0 0) ((1 ≤ nodes_of t) × (nodes_of t ≤ 4096))
-    (Unless A (refuse 5 0 0) (byte_at t 7 ≡ 0) (Unless A (refuse 6 0 0) (length t ≡ 12 * nodes_of t) rest)) (refuse k 0 0)
+    (Unless A (refuse 5 0 0) (byte_at t 7 ≡ 0) (Unless A (refuse 6 0 0) (length t ≡ 12 * nodes_of t) rest))
+    (refuse k 0 0)
 decided {A} refuse {rest} t n k e z long six four = pick (dec_lt n 1) (dec_lt 4096 n)
   where
     pick : Dec (n < 1) → Dec (4096 < n) → Unless A (refuse 4 0 0) ((1 ≤ nodes_of t) × (nodes_of t ≤ 4096))

@@ -1,6 +1,6 @@
 -- Reading and writing allow one outcome each: a text says one thing at the most, two texts whose arcs are paired make
 -- one table, and rows have one text.
-use Prim.Native.Nat.{ℕ, ◌-◌}
+use Prim.Native.Nat.{ℕ}
 use mathlib.Core.Path.{◌≡◌, sym, ◌∙◌}
 use mathlib.Core.List.{List}
 use native.Mathlib.Omega.{arith}

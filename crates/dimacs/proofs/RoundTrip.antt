@@ -2,7 +2,7 @@
 -- bound, is the table's bytes. The texts say each row's arc and then its opposite; no two rows of an accepted table
 -- join the same two nodes, so the arcs are paired, the first arcs are the rows' own in their order, and the table made
 -- of them has the rows' fields; a table of version 1 is its header's and its rows' fields, as bytes.
-use Prim.Native.Nat.{ℕ, ◌+◌, ◌-◌, ◌≤◌}
+use Prim.Native.Nat.{ℕ, ◌-◌, ◌≤◌}
 use mathlib.Core.Path.{◌≡◌, refl, sym, ap, ◌∙◌}
 use mathlib.Core.Logic.{inl, inr}
 use mathlib.Core.List.{List, [], ◌∷◌, ◌++◌, append_assoc}
@@ -68,7 +68,8 @@ module _ (s : List ℕ) where
 
     -- and the table made of them is the table
     table_back : EachByte s → version_of s ≡ 1 → Headed s → {t : List ℕ}
-        → TableOf (said_of (nodes_of s) (length_arc s) (nodes_of s - 1)) (said_of (nodes_of s) (weight_arc s) (nodes_of s - 1))
+        → TableOf (said_of (nodes_of s) (length_arc s) (nodes_of s - 1))
+        (said_of (nodes_of s) (weight_arc s) (nodes_of s - 1))
         (bound_of s) t → t ≡ s
     table_back all one h t =
         both_table no_repeat same_nodes long heavy t
@@ -77,7 +78,8 @@ module _ (s : List ℕ) where
 
     trades_back : EachByte s → version_of s ≡ 1 → Headed s → Accepts s (acceptance.Accepted (nodes_of s) (bound_of s))
         → {old : List ℕ} {o : ReadAnswer × List ℕ} → length s ≤ length old
-        → Trades (said_of (nodes_of s) (length_arc s) (nodes_of s - 1)) (said_of (nodes_of s) (weight_arc s) (nodes_of s - 1))
+        → Trades (said_of (nodes_of s) (length_arc s) (nodes_of s - 1))
+        (said_of (nodes_of s) (weight_arc s) (nodes_of s - 1))
         (bound_of s) old o → GivesTable old s o
     trades_back all one h accepts {old} {o} room p =
         let q = settled (both_paired no_repeat long, both_paired turned heavy) p in
@@ -104,7 +106,8 @@ module _ (s lengths weights long heavy : List ℕ) {k j : ℕ}
   unfolding is_text
   plain x r g e = omega (arith, ap is_text e)
 
-  version : (version_of s ≡ 1) × Begins Wrote (write_refusal lengths weights) s (GivesTexts s (nodes_of s) lengths weights)
+  version : (version_of s ≡ 1) × Begins Wrote (write_refusal lengths weights) s
+      (GivesTexts s (nodes_of s) lengths weights)
       (write.Texts k j, long, heavy)
   version = past (plain 3 0 0) (past (plain 2 0 0) (past (plain 1 0 0) p).1).1
 

@@ -32,7 +32,8 @@ module _ (old : List ℕ) where
   made_otherwise : (k : ℕ) → 25 ≤ k → (t : List ℕ)
       → Begins (ReadAnswer × List ℕ) (read_refusal old) t (GivesTable old t) (read_refusal old k 0 0) → ⊥
   made_otherwise k h t p =
-      let e = begins_other (read_refusal old) t number_of (λ j r g. refl) (omega (arith, h)) (inr (omega (arith, h))) p in
+      let e = begins_other (read_refusal old) t number_of (λ j r g. refl) (omega (arith, h)) (inr (omega (arith, h))) p
+      in
       omega (arith, h, ap number_of e)
 
   -- the table made gives none but 29 of these

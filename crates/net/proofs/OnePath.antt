@@ -35,7 +35,8 @@ module _ (u v : ℕ → ℕ) where
   unique_to f stop stop q d d' = (refl, refl)
   unique_to f stop (go h e w) q d d' = absurd (d'.0 (rw (sym q) at (last_in (go h e w))))
   unique_to f (go h e w) stop q d d' = absurd (d.0 (rw q at (last_in (go h e w))))
-  unique_to {k} {a} {b} {t} f (go {r = r} {c = c} {rs} {ns} h e w) (go {r = s} {c = d} {rs = rs'} {ns = ns'} h' e' w') q i j =
+  unique_to {k} {a} {b} {t} f (go {r = r} {c = c} {rs} {ns} h e w) (go {r = s} {c = d} {rs = rs'} {ns = ns'} h' e' w')
+      q i j =
       pick (ℕ_discrete r s) (λ w''. unique_to f w w'' q i.1)
     where
       pick : Dec (r ≡ s) → (Walk u v (First k) c rs' ns' t → Distinct (c ∷ ns') → (rs ≡ rs') × (ns ≡ ns'))

@@ -75,7 +75,8 @@ module _ {P : Entry → Type 0} (small : (e : Entry) → P e → (e.low < 65536)
   -- each call begins with fewer to give than the one before
   pub calls_fewer : {s t given left given₂ left₂ : ℕ} {old now old₂ now₂ : List ℕ} → 16 ≤ length old
       → Paged P s t old given left now → 0 < left → 16 ≤ length old₂
-      → Paged P (u16_at now (16 * (given - 1))) (u16_at now (16 * (given - 1) + 2)) old₂ given₂ left₂ now₂ → left₂ < left
+      → Paged P (u16_at now (16 * (given - 1))) (u16_at now (16 * (given - 1) + 2)) old₂ given₂ left₂ now₂ → left₂ <
+      left
   calls_fewer {old₂} h c z h₂ d =
       let w = last_given h c z in
       next_fewer w.0 w.1 c.page z w.2 (omega arith) (rw (w.3, w.4) at d.page)

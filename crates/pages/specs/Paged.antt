@@ -1,5 +1,5 @@
 -- The listing as its caller sees it: a page in lent bytes.
-use Rattle.std.specs.Prelude.{ℕ, ◌+◌, ◌*◌, ◌/◌, ◌≡◌, List, ◌++◌, length, drop}
+use Rattle.std.specs.Prelude.{ℕ, ◌*◌, ◌/◌, ◌≡◌, List, ◌++◌, length, drop}
 use Rattle.pages.specs.Listing.{Entry}
 use Rattle.pages.specs.Page.{Page}
 use Rattle.pages.specs.Bytes.{rows}

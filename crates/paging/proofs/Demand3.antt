@@ -2,7 +2,7 @@
 -- going on after the last row given, write the whole listing: every qualifying pair, lower node first, each once, in
 -- order. It is shown once, over what the operation promises of a call and over what its entries must pass; the
 -- operations cite it.
-use Prim.Native.Nat.{ℕ, zero, suc, ◌+◌, ◌-◌, ◌*◌, ◌≤◌, ◌<◌}
+use Prim.Native.Nat.{ℕ, zero, suc, ◌+◌, ◌*◌, ◌≤◌, ◌<◌}
 use mathlib.Core.Path.{◌≡◌, sym, ap, ◌∙◌}
 use mathlib.Core.List.{List, [], ◌++◌, append-nil}
 use native.Mathlib.Omega.{arith}

@@ -45,7 +45,11 @@ module _ {n : ℕ} {parent order place bl bw : List ℕ} (g : Ground n parent or
         pick j c (no m) =
             let d : at order j ≢ at order i = λ e. m
             (sym (g.grown.back j (omega arith)) ∙ ap (at place) e ∙ g.grown.back i b) in
-            rw (get_or-set_other len (at order i) (at order j) l 0 d, get_or-set_other wt (at order i) (at order j) w 0 d)
+            rw (
+              get_or-set_other len (at order i) (at order j) l 0 d,
+              get_or-set_other wt (at order i) (at order j) w 0
+                  d,
+            )
             (s.done j (omega arith))
 
     -- the parent of the node at place i is done

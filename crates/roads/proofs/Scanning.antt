@@ -61,7 +61,8 @@ zero_alone end c r q (b ∷ u) d e =
     cc (h)
 
 module _ {s : List ℕ} {at i x : ℕ} (k : Scan s at i x) where
-  pub scan_more : {r : ℕ} → i < length s → 48 ≤ get_or s i 0 → get_or s i 0 ≤ 57 → (x ≡ 0 → ⊥) → Longer x (get_or s i 0) r
+  pub scan_more : {r : ℕ} → i < length s → 48 ≤ get_or s i 0 → get_or s i 0 ≤ 57 → (x ≡ 0 → ⊥) → Longer x
+      (get_or s i 0) r
       → Scan s at (i + 1) r
   scan_more {r} h lo hi n g = record {
     text = k.text ++ get_or s i 0 ∷ [];

@@ -5,7 +5,6 @@ use mathlib.Core.List.{List}
 use native.Mathlib.Omega.{arith}
 use lib.ListN.{length}
 use lib.Seq.{ext_get_or}
-use Rattle.arrays.specs.At.{at}
 use Rattle.table.specs.Refuse.{Only, passed}
 use Rattle.table.specs.Header.{nodes_of}
 use Rattle.table.proofs.Refusals.{unless_only}

@@ -42,7 +42,8 @@ leaves_each v t =
 
 -- Hops never exceed 1 + 2 × floor(log2 of the number of leaves).
 pub hops_at_most : {s : List ℕ} {n x y h a c : ℕ} → Net s n → x < n → y < n
-    → Hops (first_end s) (second_end s) (n - 1) n x y h → Count (Leaf (ChildOf (first_end s) (second_end s) (n - 1) n) n) a
+    → Hops (first_end s) (second_end s) (n - 1) n x y h → Count
+    (Leaf (ChildOf (first_end s) (second_end s) (n - 1) n) n) a
     → FloorLog a c → h ≤ 1 + 2 * c
 hops_at_most {x = x} {y = y} {h = h} {a = a} {c = c} t bx by p l f =
     let g = net_hangs t in

@@ -15,8 +15,8 @@ pub(crate) struct Handed {
 }
 
 // A line and some bytes, another line and some bytes, any of which may be empty: one after the other they tell the
-// outcome of what is asked. That the system writes what its standard output is handed, in order, is not proved; a writer
-// whose bytes are known has them all, or after an error a front of them.
+// outcome of what is asked. That the system writes what its standard output is handed, in order, is not proved; a
+// writer whose bytes are known has them all, or after an error a front of them.
 pub(crate) fn hand_over<W: Write>(
     to: &mut W,
     way: u8,

@@ -45,7 +45,8 @@ ring_refused s g o =
     (ring_closes (first_end s) (second_end s) o)
   where
     pick : NoneOrLeast (RingAt (first_end s) (second_end s)) (nodes_of s - 1)
-        → Closes (first_end s) (second_end s) (nodes_of s - 1) → (r : ℕ) × (g : ℕ) × Accepts s (acceptance_refusal 11 r g)
+        → Closes (first_end s) (second_end s) (nodes_of s - 1) → (r : ℕ) × (g : ℕ) × Accepts s
+        (acceptance_refusal 11 r g)
     pick (inl f) c = absurd (f c.0 c.1 c.2)
     pick (inr t) c =
         let n = row_number (first_end s) (second_end s) t.2 in (
@@ -79,7 +80,8 @@ module _ (s : List ℕ) where
           most_rows (first_end s) (second_end s) c.number,
         )
 
-    pub ring_repeat : (g ≡ 2) ↔ ((q : ℕ) × (q < r) × Ends (first_end s) (second_end s) q (first_end s r) (second_end s r))
+    pub ring_repeat : (g ≡ 2) ↔ ((q : ℕ) × (q < r) × Ends (first_end s) (second_end s) q (first_end s r)
+        (second_end s r))
     ring_repeat =
         let c = closer s r g p in
         repeated (first_end s) (second_end s) (ends_differ s c.good r c.below) c.number c.some c.before

@@ -72,7 +72,8 @@ pub groups_left : (s : List ℕ) → GoodTable s → (k : ℕ) → k ≤ nodes_o
 groups_left = twelve.groups_left
 
 -- so n − 1 rows without a ring join every node to node 0.
-pub all_joined : (s : List ℕ) → GoodTable s → ¬ Ring (first_end s) (second_end s) (nodes_of s - 1) → Whole s (nodes_of s)
+pub all_joined : (s : List ℕ) → GoodTable s → ¬ Ring (first_end s) (second_end s) (nodes_of s - 1) → Whole s
+    (nodes_of s)
 all_joined = twelve.all_joined
 
 -- Therefore no answer moved when 12 went: a promise that begins with 1 to 11, with 12 tested before what follows, as it

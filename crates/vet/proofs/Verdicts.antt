@@ -61,5 +61,6 @@ module _ {s marks parent half order place bl bw spot above far heavy : List ℕ}
   verdict_is {most = most} {low} b h list m r v =
       let w = weighs_from {sums = from low} h refl in
       rw b
-      at (vets_iff (meant_passes of_net {limit = at_most most} w) (passes_meant of_net {limit = at_most most} w one_path)
+      at (vets_iff (meant_passes of_net {limit = at_most most} w)
+      (passes_meant of_net {limit = at_most most} w one_path)
       list m r (rw e at v))

@@ -1,7 +1,7 @@
 -- The first pair that is lacking, block after block. In a block the set has exactly the pairs that rows name, so a pair
 -- that belongs and is not in it is lacking. Each first node is of one block; so the first pair of all is the first of
 -- its own block, and the first of the firsts.
-use Prim.Native.Nat.{ℕ, ◌+◌, ◌-◌, ◌≤◌, ◌<◌}
+use Prim.Native.Nat.{ℕ, ◌+◌, ◌≤◌, ◌<◌}
 use mathlib.Core.Path.{◌≡◌, refl}
 use mathlib.Core.Bool.{Bool, true, false, false≢true}
 use mathlib.Core.List.{List}

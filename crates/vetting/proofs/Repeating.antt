@@ -2,12 +2,10 @@
 -- a row whose pair is in the set before it repeats an earlier one, and no other does.
 use Prim.Native.Nat.{ℕ, ◌+◌, ◌≤◌, ◌<◌}
 use mathlib.Core.Path.{◌≡◌, refl, sym, ◌∙◌}
-use mathlib.Core.Logic.{◌≢◌}
 use mathlib.Core.Bool.{Bool, true, false, true≢false}
 use mathlib.Core.List.{List}
 use native.Mathlib.Omega.{arith}
 use native.Mathlib.Decide.{ℕ_discrete}
-use Rattle.arrays.specs.At.{at}
 use Rattle.arrays.specs.work.Filled.{Filled}
 use Rattle.vetting.specs.work.Bits.{Has, PutIn}
 use Rattle.vetting.specs.work.Lines.{InBlock, Slot, Admitted}
@@ -42,7 +40,8 @@ module _ {s : List ℕ} {n from end r i : ℕ} {bits : List ℕ} (N : NamePairs 
     only = λ p h. let v = U.only p h in (v.0, omega (arith, v.1), v.2, v.3);
   }
     where
-      fresh : (k : ℕ) → k < i + 1 → InBlock n from end (low_of s k) → Dec (k ≡ i) → ¬ Named s k (low_of s k) (high_of s k)
+      fresh : (k : ℕ) → k < i + 1 → InBlock n from end (low_of s k) → Dec (k ≡ i) → ¬ Named s k (low_of s k)
+          (high_of s k)
       fresh k h b (yes e) = absurd (o (rw e at b))
       fresh k h b (no e) = U.fresh k (omega arith) b
 

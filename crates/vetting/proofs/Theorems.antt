@@ -11,7 +11,7 @@ use mathlib.Core.List.{List, [], flatten}
 use native.Mathlib.Omega.{arith}
 use native.Mathlib.Decide.{dec_lt}
 use lib.ListN.{length, take}
-use Rattle.arrays.specs.Members.{In, at, Distinct}
+use Rattle.arrays.specs.Members.{In, Distinct}
 use Rattle.arrays.proofs.Members.{not_nil}
 use Rattle.pages.specs.Listing.{Entry, Listing}
 use Rattle.pages.specs.Bytes.{row, rows}
@@ -149,7 +149,8 @@ module _ {P : Entry → Type 0} {l : List Entry} (fits : (e : Entry) → P e →
       ↔ (((e : Entry) × P e × (list_row s i ≡ row e)) × ((j : ℕ) → j < i → list_row s j ≢ list_row s i))
   repeats_exactly s i good = (to, from)
     where
-      to : GoodRow P s i → ((e : Entry) × P e × (list_row s i ≡ row e)) × ((j : ℕ) → j < i → list_row s j ≢ list_row s i)
+      to : GoodRow P s i → ((e : Entry) × P e × (list_row s i ≡ row e)) ×
+          ((j : ℕ) → j < i → list_row s j ≢ list_row s i)
       to g = (
         (g.entry, g.belongs, g.shows),
         λ j h q. g.new j h (pair_first s j ∙ ap (take 4) q ∙ sym (pair_first s i)),

@@ -121,11 +121,13 @@ module _ (up by : ℕ → ℕ) (s nodes : List ℕ) where
       }
     where
       to : T (accepted? s) → T (hangs? up by s) → {x : ℕ} → x < nodes_of s → (p c : ℕ)
-          → Child (nodes_of s) (par up by s) p c → ChildOf (first_end s) (second_end s) (nodes_of s - 1) (nodes_of s) p c
+          → Child (nodes_of s) (par up by s) p c → ChildOf (first_end s) (second_end s) (nodes_of s - 1) (nodes_of s) p
+          c
       to ok h b p c k = child_net (rooted up by s ok h) (hung up by s) (omega arith) p c k
 
       fro : T (accepted? s) → T (hangs? up by s) → {x : ℕ} → x < nodes_of s → (p c : ℕ)
-          → ChildOf (first_end s) (second_end s) (nodes_of s - 1) (nodes_of s) p c → Child (nodes_of s) (par up by s) p c
+          → ChildOf (first_end s) (second_end s) (nodes_of s - 1) (nodes_of s) p c → Child (nodes_of s) (par up by s) p
+          c
       fro ok h b p c k = net_child (rooted up by s ok h) (hung up by s) (omega arith) p c k
 
       pick : (x : ℕ) → T (childless x) → T (has x nodes) ⊎ T (not (childless x)) → T (has x nodes)

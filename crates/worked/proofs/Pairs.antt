@@ -35,7 +35,8 @@ module _ (s marks : List ℕ) (way : ℕ → ℕ → List ℕ) where
   pub way_path : T ways? → (a b : ℕ) → a < b → b < nodes_of s → T (path? s a (way a b) b)
   unfolding ways?
   way_path t a b h k =
-      below_all (λ a. path? s a (way a b) b) b (below_all (λ b. below (λ a. path? s a (way a b) b) b) (nodes_of s) t b k)
+      below_all (λ a. path? s a (way a b) b) b (below_all (λ b. below (λ a. path? s a (way a b) b) b) (nodes_of s) t b
+      k)
       a h
 
   module _ (within : ℕ → Bool) (heavy : ℤ → Bool) where

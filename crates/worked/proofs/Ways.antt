@@ -45,7 +45,8 @@ module _ (s : List ℕ) where
   unfolding leads met
   leads_walk a [] b t = rw (eqb→eq a b t) stop
   leads_walk a (r ∷ rs) b t =
-      let x = both (ltb r (nodes_of s - 1) && (eqb (first_end s r) a || eqb (second_end s r) a)) (leads (other r a) rs b)
+      let x = both (ltb r (nodes_of s - 1) && (eqb (first_end s r) a || eqb (second_end s r) a))
+      (leads (other r a) rs b)
       t in
       let y = both (ltb r (nodes_of s - 1)) (eqb (first_end s r) a || eqb (second_end s r) a) x.0 in
       go (ltb→lt r (nodes_of s - 1) y.0) (other_ends r a y.1) (leads_walk (other r a) rs b x.1)
@@ -65,6 +66,7 @@ module _ (s : List ℕ) where
       → Path (first_end s) (second_end s) (nodes_of s - 1) a rs b
   is_path a rs b t = let x = is_walk a rs b t in (met a rs, x.0, x.1)
 
-  pub path_only : {a b : ℕ} {rs ts : List ℕ} → T (accepted? s) → Path (first_end s) (second_end s) (nodes_of s - 1) a rs b
+  pub path_only : {a b : ℕ} {rs ts : List ℕ} → T (accepted? s) → Path (first_end s) (second_end s) (nodes_of s - 1) a
+      rs b
       → Path (first_end s) (second_end s) (nodes_of s - 1) a ts b → rs ≡ ts
   path_only t p q = (unique (first_end s) (second_end s) (forest s t) p.1 q.1 p.2 q.2).0

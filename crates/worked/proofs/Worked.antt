@@ -106,11 +106,13 @@ all_hold (c ∷ l) t = let a = both (check c) (check_all l) t in (check_holds c 
 
 -- Every case of the list holds.
 pub cases_hold : All cases
-unfolding head_some main? main_some best many count_dec leaves_some leaf_under? leaf? child? above? some? dec_lt dec_le up
+unfolding head_some main? main_some best many count_dec leaves_some leaf_under? leaf? child? above? some? dec_lt dec_le
+    up
     by heads? leaves? pair? hangs? par head_at once heads_of check_all check cases net5 n5 cells5 net2 unmarked held
     marked crossed lent three way ways best? claimed? refused? frees throughout listing? seconds firsts bytes row rows
     rising? has_entry same_entry same good? accepted? ringed? ways? path? leads met other wanted? all_pairs at_least?
-    after? every below has no_repeat label relabel grows ℕ_discrete first_end second_end length_of weight_of weight_under
+    after? every below has no_repeat label relabel grows ℕ_discrete first_end second_end length_of weight_of
+    weight_under
     weighs Total
 cases_hold = all_hold cases tt
 

@@ -5,4 +5,5 @@ use mir.ValLaws.{to_z-of_z}
 use Rattle.capi_c.proofs.hb_window.Goals as goal
 
 pub returns : goal.returns
-returns c = rw (to_z-of_z w64 c.args.floor c.ranges.floor, to_z-of_z w64 c.args.ceiling c.ranges.ceiling) at c.hb_window.ensures
+returns c = rw (to_z-of_z w64 c.args.floor c.ranges.floor, to_z-of_z w64 c.args.ceiling c.ranges.ceiling) at
+    c.hb_window.ensures

@@ -1,4 +1,3 @@
-use Prim.Native.Nat.{◌-◌}
 use native.Mathlib.Omega.{arith}
 use Rattle.convert.proofs.Readings.{behind_next, behind_bad, behind_all}
 use Rattle.convert.proofs.each_mark.Goals as goal

@@ -32,7 +32,8 @@ whole-requires c =
     let paths-from-ensures = c.paths_from.ensures in
     let g = c.requires.ground in
     let p = paths-from-ensures.0 g in
-    let m = numbering g.grown c.number.ensures.heads_all c.number.ensures.sizes_all c.number.ensures.seating o in record {
+    let m = numbering g.grown c.number.ensures.heads_all c.number.ensures.sizes_all c.number.ensures.seating o in
+    record {
       world = record {
         far = laid_low g.grown m _ _ o.distances (d_low g _ _ p);
         heavy = laid_low g.grown m _ _ o.weights (w_low g _ _ p);

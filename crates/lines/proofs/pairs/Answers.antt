@@ -1,4 +1,3 @@
-use Prim.Native.Nat.{◌-◌}
 use native.Mathlib.Omega.{arith}
 use Rattle.lines.proofs.Lining.{lining_none, lining_more, lining_done}
 use Rattle.lines.proofs.pairs.Goals as goal

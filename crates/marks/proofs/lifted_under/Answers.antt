@@ -20,7 +20,12 @@ returns-then-marks-row-ne-FREE c =
 pub returns-else-marks-row-ne-FREE : goal.returns-else-marks-row-ne-FREE
 returns-else-marks-row-ne-FREE c =
     let lifted-at-ensures = c.lifted_at-own.ensures in
-    record { lift = _; own = lifted-at-ensures; free = λ _. refl; marked = λ m. absurd (m c.if-marks-row-ne-FREE.false) }
+    record {
+      lift = _;
+      own = lifted-at-ensures;
+      free = λ _. refl;
+      marked = λ m. absurd (m c.if-marks-row-ne-FREE.false);
+    }
 
 -- past the last mark
 pub returns-else-row-marks : goal.returns-else-row-marks

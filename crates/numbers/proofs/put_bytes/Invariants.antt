@@ -9,7 +9,8 @@ use Rattle.numbers.proofs.put_bytes.Given as goal
 
 abbrev pub invariant-loop-j : goal.invariant-loop-j
 invariant-loop-j l =
-    (l.p + l.j ≤ length l.out) × (length l.out ≡ length l.initial.out) × (sets l.out l.p (bytes l.j l.y) ≡ sets l.initial.out l.at (bytes l.k l.x))
+    (l.p + l.j ≤ length l.out) × (length l.out ≡ length l.initial.out) ×
+    (sets l.out l.p (bytes l.j l.y) ≡ sets l.initial.out l.at (bytes l.k l.x))
 
 abbrev pub decreases-loop-j : goal.decreases-loop-j
 decreases-loop-j l = l.j

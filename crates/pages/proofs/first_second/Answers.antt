@@ -1,6 +1,5 @@
 -- `pages::first_second` gives the node after u, and for the start's first node the one after t where that is later; at
 -- most n.
-use mathlib.Core.Logic.{⊎_elim}
 use native.Mathlib.Omega.{arith}
 use Rattle.pages.proofs.Scan.{starts_next}
 use Rattle.pages.proofs.first_second.Goals as goal

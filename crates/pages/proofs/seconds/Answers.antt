@@ -1,6 +1,4 @@
-use Prim.Native.Nat.{◌-◌}
 use mathlib.Core.Path.{◌≡◌, refl}
-use mathlib.Core.Logic.{⊎_elim}
 use native.Mathlib.Omega.{arith}
 use Rattle.pages.proofs.Scan.{seconds_none, seconds_add, seconds_skip}
 use Rattle.pages.proofs.seconds.Goals.{then-passes, else-passes}
@@ -24,7 +22,7 @@ loop-v-preserved c =
     let passes-ensures = c.passes.ensures in
     let h = c.loop-v.invariant in (
       elim c.if-passes.branch [
-        then-passes w ↦
+        | then-passes w ↦
             rw (w.out-is, w.k-is)
             (seconds_add _ h.0 _ _ refl refl _ refl h.2 (passes-ensures.holds w.if-passes.true) w.add-k.ensures)
         | else-passes w ↦

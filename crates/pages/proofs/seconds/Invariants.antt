@@ -7,7 +7,8 @@ use Rattle.pages.proofs.seconds.Given as goal
 
 abbrev pub invariant-loop-v : goal.invariant-loop-v
 invariant-loop-v l =
-    Seconds (Fits l.limit) l.key l.len l.wt l.u l.from l.sums l.v l.initial.out l.initial.k.given l.initial.k.left l.out l.k.given l.k.left
+    Seconds (Fits l.limit) l.key l.len l.wt l.u l.from l.sums l.v l.initial.out l.initial.k.given l.initial.k.left
+    l.out l.k.given l.k.left
     × SecondsReady l.initial.out l.room l.wt l.u l.from l.n l.initial.k.left
     × (l.from ≤ l.v)
     × (l.v ≤ l.n)

@@ -11,4 +11,5 @@ pub data Calls (P : Entry → Type 0) : (s t : ℕ) (joined : List Entry) → Ty
       → Calls P s t c.some
   again : {s t given left : ℕ} {old now : List ℕ} {later : List Entry} → 16 ≤ length old
       → (c : Paged P s t old given left now) → 0 < left
-      → Calls P (u16_at now (16 * (given - 1))) (u16_at now (16 * (given - 1) + 2)) later → Calls P s t (c.some ++ later)
+      → Calls P (u16_at now (16 * (given - 1))) (u16_at now (16 * (given - 1) + 2)) later → Calls P s t
+      (c.some ++ later)

@@ -1,5 +1,5 @@
 -- Pages asked for one after the other until none is left.
-use Rattle.std.specs.Prelude.{ℕ, ◌+◌, ◌≤◌, ◌<◌, ◌≡◌, List, [], ◌∷◌, ◌++◌}
+use Rattle.std.specs.Prelude.{ℕ, ◌≤◌, ◌<◌, ◌≡◌, List, [], ◌∷◌, ◌++◌}
 use Rattle.pages.specs.Listing.{Entry}
 use Rattle.pages.specs.Page.{Page}
 

@@ -1,4 +1,3 @@
-use Prim.Native.Nat.{◌-◌}
 use native.Mathlib.Omega.{arith}
 use Rattle.paths.proofs.Climbs.{cleared_more, cleared_end}
 use Rattle.paths.proofs.clear.Goals as goal

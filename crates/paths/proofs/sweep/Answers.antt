@@ -1,4 +1,4 @@
-use Prim.Native.Nat.{◌-◌, ◌<◌}
+use Prim.Native.Nat.{◌<◌}
 use mathlib.Core.Path.{refl}
 use native.Mathlib.Omega.{arith}
 use Rattle.paths.proofs.Sweeps.{sweeping_one, sweeping_step, sweeping_end, sweep_node, sweep_parent, steps}

@@ -1,6 +1,5 @@
 use Prim.Native.Nat.{◌-◌, ◌<◌}
 use native.Mathlib.Omega.{arith}
-use Rattle.arrays.specs.At.{at}
 use Rattle.reach.proofs.Queue.{going_start, going_keep, going_room, going_push, inner_end, leads_place}
 use Rattle.reach.proofs.visit.Goals.{then-parent-c-eq4096, else-parent-c-eq4096, After-leads-c}
 use Rattle.reach.proofs.visit.Goals as goal
@@ -37,10 +36,18 @@ pub bounds-parent-c : goal.bounds-parent-c
 bounds-parent-c c = omega (arith, node_in (goal.at.bounds-parent-c c).After-leads-c)
 
 pub offset_bounds-parent-c-then-parent-c-eq4096 : goal.offset_bounds-parent-c-then-parent-c-eq4096
-offset_bounds-parent-c-then-parent-c-eq4096 c = omega (arith, node_in (goal.at.offset_bounds-parent-c-then-parent-c-eq4096 c).After-leads-c)
+offset_bounds-parent-c-then-parent-c-eq4096 c = omega (
+  arith,
+  node_in
+      (goal.at.offset_bounds-parent-c-then-parent-c-eq4096 c).After-leads-c,
+)
 
 pub bounds-parent-c-then-parent-c-eq4096 : goal.bounds-parent-c-then-parent-c-eq4096
-bounds-parent-c-then-parent-c-eq4096 c = omega (arith, node_in (goal.at.bounds-parent-c-then-parent-c-eq4096 c).After-leads-c)
+bounds-parent-c-then-parent-c-eq4096 c = omega (
+  arith,
+  node_in
+      (goal.at.bounds-parent-c-then-parent-c-eq4096 c).After-leads-c,
+)
 
 pub offset_bounds-half-c : goal.offset_bounds-half-c
 offset_bounds-half-c c = omega (arith, node_in (goal.at.offset_bounds-half-c c).After-leads-c)
@@ -63,7 +70,12 @@ loop-x-smaller c =
     let loop-test-taken = c.loop-x-test.true in
     let loop-x = c.loop-x.x in
     let g = c.loop-x.invariant.0.holds in
-    omega (arith, c.wide-x-in-loop-x.ensures.0, (g.chains.nexts (loop-x - 1) (omega (arith, g.low, loop-test-taken))).below)
+    omega (
+      arith,
+      c.wide-x-in-loop-x.ensures.0,
+      (g.chains.nexts (loop-x - 1)
+          (omega (arith, g.low, loop-test-taken))).below,
+    )
 
 pub loop-x-preserved : goal.loop-x-preserved
 loop-x-preserved c =
@@ -72,11 +84,12 @@ loop-x-preserved c =
     let z = c.loop-x-test.true in
     let e = c.leads-c.ensures in (
       elim c.if-parent-c-eq4096.branch [
-        then-parent-c-eq4096 w ↦
+        | then-parent-c-eq4096 w ↦
             rw (w.parent-is, w.half-is, w.order-is, w.m-is)
             (record {
               place = _;
-              holds = going_push _ _ _ _ _ _ _ _ _ _ _ _ _ g z _ _ e (node_in (goal.at.loop-x-preserved c).After-leads-c)
+              holds = going_push _ _ _ _ _ _ _ _ _ _ _ _ _ g z _ _ e
+                  (node_in (goal.at.loop-x-preserved c).After-leads-c)
                   w.if-parent-c-eq4096.true c.wide-x-in-loop-x.ensures.0;
             })
         | else-parent-c-eq4096 w ↦

@@ -1,7 +1,5 @@
-use Prim.Native.Nat.{◌-◌}
 use mathlib.Core.Path.{sym, ◌∙◌}
 use native.Mathlib.Omega.{arith}
-use Rattle.arrays.specs.At.{at}
 use Rattle.ring.specs.work.Union.{here}
 use Rattle.ring.proofs.Union.{climb_more}
 use Rattle.ring.proofs.find.Goals as goal

@@ -1,6 +1,4 @@
-use Prim.Native.Nat.{◌-◌}
 use native.Mathlib.Omega.{arith}
-use Rattle.net.specs.Net.{first_end, second_end}
 use Rattle.ring.proofs.Union.{seen_none, seen_more, seen_ring, rises_more}
 use Rattle.ring.proofs.first_ring.Goals as goal
 

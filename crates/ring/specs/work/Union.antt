@@ -1,5 +1,5 @@
 -- What union by rank keeps, and what it finds: the first row that closes a ring.
-use Rattle.std.specs.Prelude.{ℕ, ◌+◌, ◌-◌, ◌≤◌, ◌<◌, ◌≡◌, ◌⊎◌, ◌≢◌, List, length, set}
+use Rattle.std.specs.Prelude.{ℕ, ◌+◌, ◌≤◌, ◌<◌, ◌≡◌, ◌⊎◌, ◌≢◌, List, length, set}
 use Rattle.arrays.specs.At.{at}
 use Rattle.net.specs.Graph.{RingAt}
 use Rattle.net.specs.work.Forest.{Forest}

@@ -1,6 +1,5 @@
 use Rattle.spines.proofs.Copying.{copying_none, copying_more, copying_all}
 use lib.ListN.{length-set}
-use Prim.Native.Nat.{◌-◌}
 use native.Mathlib.Omega.{arith}
 use Rattle.spines.proofs.copy.Goals as goal
 

@@ -1,7 +1,7 @@
 -- `sizes_of` meets its contract. The places from i on have given their nodes to their parents; at the end the root
 -- alone has not. The node at place i - 1 and its parent have a place in each array (`node_in`, `parent_in`), as the
 -- walk reaches no other.
-use Prim.Native.Nat.{◌-◌, ◌≤◌, ◌<◌}
+use Prim.Native.Nat.{◌≤◌, ◌<◌}
 use Rattle.reach.specs.work.Grown.{Ordered}
 use Rattle.spines.proofs.Backward.{Given}
 use Rattle.spines.proofs.SizeSweep.{Node}

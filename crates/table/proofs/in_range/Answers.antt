@@ -18,5 +18,8 @@ returns-then-weight-gt1000000 c =
 
 pub returns : goal.returns
 returns c =
-    let e = to_z-of_z w32 c.args.weight c.ranges.weight in
-    (λ _. in_range (rw e at c.if-weight-ltminus1000000.false) (rw e at c.if-weight-gt1000000.false), λ t. absurd (true≢false t))
+    let e = to_z-of_z w32 c.args.weight c.ranges.weight in (
+      λ _. in_range (rw e at c.if-weight-ltminus1000000.false) (rw e at c.if-weight-gt1000000.false),
+      λ t. absurd
+          (true≢false t),
+    )

@@ -25,7 +25,8 @@ module _ (c : After-weight_at-weight) where
   is = to_z-of_z w32 _ (record { sfits = c.weight_at-weight.type_inv }) ∙ c.weight_at-weight.ensures
 
 within : (c : Then-in_range) → InRange ((weight_at c.args.s.now c.args.row))
-within c = rw ((to_z-of_z w32 _ (record { sfits = c.weight_at-weight.type_inv }) ∙ c.weight_at-weight.ensures)) at (c.in_range.ensures.0 c.if-in_range.true)
+within c = rw ((to_z-of_z w32 _ (record { sfits = c.weight_at-weight.type_inv }) ∙ c.weight_at-weight.ensures)) at
+    (c.in_range.ensures.0 c.if-in_range.true)
 
 pub weight_at-weight-requires : goal.weight_at-weight-requires
 weight_at-weight-requires c = row_stands c
@@ -34,7 +35,8 @@ pub overflow_add-result : goal.overflow_add-result
 overflow_add-result c = lift_fits (is (goal.at.overflow_add-result c).After-weight_at-weight) (within c)
 
 pub overflow_cast-result-then-in_range : goal.overflow_cast-result-then-in_range
-overflow_cast-result-then-in_range c = lift_casts (is (goal.at.overflow_cast-result-then-in_range c).After-weight_at-weight) (within c)
+overflow_cast-result-then-in_range c = lift_casts (is (goal.at.overflow_cast-result-then-in_range
+    c).After-weight_at-weight) (within c)
 
 pub returns-then-in_range : goal.returns-then-in_range
 returns-then-in_range c = record {
@@ -45,7 +47,8 @@ returns-then-in_range c = record {
 
 pub returns-else-in_range : goal.returns-else-in_range
 returns-else-in_range c = record {
-  lifts = λ _ w. absurd (c.in_range.ensures.1 c.if-in_range.false (rw (is (goal.at.returns-else-in_range c).After-weight_at-weight) w));
+  lifts = λ _ w. absurd (c.in_range.ensures.1 c.if-in_range.false
+      (rw (is (goal.at.returns-else-in_range c).After-weight_at-weight) w));
   none = λ _. refl;
   small = omega arith;
 }

@@ -53,21 +53,27 @@ returns-then-s-ne78 c =
 
 pub returns-then-version-lt1 : goal.returns-then-version-lt1
 returns-then-version-lt1 c =
-    passed (long (goal.at.returns-then-version-lt1 c).Else-s-ne78) (passed (lettered (goal.at.returns-then-version-lt1 c).Else-s-ne78) (refused (⊎_elim (λ e. omega (arith, e)) (λ e. omega (arith, e)))))
+    passed (long (goal.at.returns-then-version-lt1 c).Else-s-ne78)
+    (passed (lettered (goal.at.returns-then-version-lt1 c).Else-s-ne78)
+    (refused (⊎_elim (λ e. omega (arith, e)) (λ e. omega (arith, e)))))
 
 pub returns-then-version-gt2 : goal.returns-then-version-gt2
 returns-then-version-gt2 c =
-    passed (long (goal.at.returns-then-version-gt2 c).Else-s-ne78) (passed (lettered (goal.at.returns-then-version-gt2 c).Else-s-ne78) (refused (⊎_elim (λ e. omega (arith, e)) (λ e. omega (arith, e)))))
+    passed (long (goal.at.returns-then-version-gt2 c).Else-s-ne78)
+    (passed (lettered (goal.at.returns-then-version-gt2 c).Else-s-ne78)
+    (refused (⊎_elim (λ e. omega (arith, e)) (λ e. omega (arith, e)))))
 
 pub returns-then-nodes-lt1 : goal.returns-then-nodes-lt1
 returns-then-nodes-lt1 c =
     passed (long (goal.at.returns-then-nodes-lt1 c).Else-s-ne78)
-    (passed (lettered (goal.at.returns-then-nodes-lt1 c).Else-s-ne78) (passed (versioned (goal.at.returns-then-nodes-lt1 c).Else-version-gt2) (refused (λ n. omega (arith, n.0)))))
+    (passed (lettered (goal.at.returns-then-nodes-lt1 c).Else-s-ne78)
+    (passed (versioned (goal.at.returns-then-nodes-lt1 c).Else-version-gt2) (refused (λ n. omega (arith, n.0)))))
 
 pub returns-then-nodes-gt4096 : goal.returns-then-nodes-gt4096
 returns-then-nodes-gt4096 c =
     passed (long (goal.at.returns-then-nodes-gt4096 c).Else-s-ne78)
-    (passed (lettered (goal.at.returns-then-nodes-gt4096 c).Else-s-ne78) (passed (versioned (goal.at.returns-then-nodes-gt4096 c).Else-version-gt2) (refused (λ n. omega (arith, n.1)))))
+    (passed (lettered (goal.at.returns-then-nodes-gt4096 c).Else-s-ne78)
+    (passed (versioned (goal.at.returns-then-nodes-gt4096 c).Else-version-gt2) (refused (λ n. omega (arith, n.1)))))
 
 pub returns-then-s-ne0 : goal.returns-then-s-ne0
 returns-then-s-ne0 c =

@@ -28,7 +28,8 @@ module _ (c : Else-length-gt1000000) where
 
   sized : {rest : ℕ → Type 0} {k : ℕ} → rest k
       → Unless ℕ 7 (((row_at bytes row).a < nodes) × ((row_at bytes row).b < nodes))
-      (Unless ℕ 8 ((row_at bytes row).a ≢ (row_at bytes row).b) (Unless ℕ 9 ((row_at bytes row).length ≤ 1000000) rest)) k
+      (Unless ℕ 8 ((row_at bytes row).a ≢ (row_at bytes row).b)
+      (Unless ℕ 9 ((row_at bytes row).length ≤ 1000000) rest)) k
   sized p = passed (omega arith, omega arith) (passed (λ e. omega (arith, e)) (passed (omega arith) p))
 
 -- version 2: 22 and 23 in place of 10
@@ -54,12 +55,14 @@ pub returns-then-a-b : goal.returns-then-a-b
 returns-then-a-b c = passed (omega arith, omega arith) (refused (λ n. n (omega arith)))
 
 pub returns-then-length-gt1000000 : goal.returns-then-length-gt1000000
-returns-then-length-gt1000000 c = passed (omega arith, omega arith) (passed (λ e. omega (arith, e)) (refused (λ n. omega arith)))
+returns-then-length-gt1000000 c = passed (omega arith, omega arith)
+    (passed (λ e. omega (arith, e)) (refused (λ n. omega arith)))
 
 pub returns-then-u16_at-ge64 : goal.returns-then-u16_at-ge64
 returns-then-u16_at-ge64 c =
     let v = second (goal.at.returns-then-u16_at-ge64 c).Then-u16_at-eq2 in
-    sized (goal.at.returns-then-u16_at-ge64 c).Else-length-gt1000000 (passed (λ n. absurd (n v)) (refused (λ k. omega (arith, k v))))
+    sized (goal.at.returns-then-u16_at-ge64 c).Else-length-gt1000000
+    (passed (λ n. absurd (n v)) (refused (λ k. omega (arith, k v))))
 
 pub returns-then-u16_at-gt20000 : goal.returns-then-u16_at-gt20000
 returns-then-u16_at-gt20000 c =
@@ -76,11 +79,13 @@ returns-then-u16_at-eq2 c =
 pub returns-then-in_range : goal.returns-then-in_range
 returns-then-in_range c =
     let n = other (goal.at.returns-then-in_range c).Else-u16_at-eq2 in
-    let within = rw (is (goal.at.returns-then-in_range c).After-weight_at) at (c.in_range.ensures.0 c.if-in_range.true) in
+    let within = rw (is (goal.at.returns-then-in_range c).After-weight_at) at (c.in_range.ensures.0 c.if-in_range.true)
+    in
     sized (goal.at.returns-then-in_range c).Else-length-gt1000000
     (passed (λ _. within) (passed (λ e. absurd (n e)) (passed (λ e. absurd (n e)) refl)))
 
 pub returns : goal.returns
 returns c =
     let beyond = rw (is (goal.at.returns c).After-weight_at) at (c.in_range.ensures.1 c.if-in_range.false) in
-    sized (goal.at.returns c).Else-length-gt1000000 (refused (λ w. beyond (w (other (goal.at.returns c).Else-u16_at-eq2))))
+    sized (goal.at.returns c).Else-length-gt1000000 (refused (λ w. beyond
+    (w (other (goal.at.returns c).Else-u16_at-eq2))))

@@ -1,5 +1,5 @@
 -- The entries that the numbers of a net laid out by spots mean, and what a row's test asks.
-use Rattle.std.specs.Prelude.{ℕ, ◌<◌, List, length}
+use Rattle.std.specs.Prelude.{ℕ, ◌<◌, List}
 use Rattle.table.specs.work.Diff.{Diff}
 use Rattle.table.specs.work.Lift.{sum_lift}
 use Rattle.limits.specs.declared.Limit.{Limit}

@@ -55,7 +55,8 @@ returns-then-b-eq0 c =
     let here = (goal.at.returns-then-b-eq0 c).After-search-b in
     let pre = c.requires in
     passed (marked here)
-    (passed (well_put here) (refused (none_inside _ _ (asked here) pre (best_is here) (well_put here).positive (omega arith))))
+    (passed (well_put here) (refused (none_inside _ _ (asked here) pre (best_is here) (well_put here).positive
+    (omega arith))))
 
 pub overflow_cast-low : goal.overflow_cast-low
 overflow_cast-low c =

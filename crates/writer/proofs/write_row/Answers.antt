@@ -14,7 +14,8 @@ pub returns-then-a-b : goal.returns-then-a-b
 returns-then-a-b c = passed (omega arith, omega arith) (refused (λ n. n (omega arith)))
 
 pub returns-then-wire-gt1000000 : goal.returns-then-wire-gt1000000
-returns-then-wire-gt1000000 c = passed (omega arith, omega arith) (passed (λ e. omega (arith, e)) (refused (λ n. omega arith)))
+returns-then-wire-gt1000000 c = passed (omega arith, omega arith)
+    (passed (λ e. omega (arith, e)) (refused (λ n. omega arith)))
 
 pub returns-then-kind-ge64 : goal.returns-then-kind-ge64
 returns-then-kind-ge64 c =

@@ -7,7 +7,12 @@ use Rattle.roads.specs.Text.{Arc}
 -- row r as an arc, with the number that stands at `place` in the row: 4 the length, 8 the weight
 abbrev pub row_arc : ℕ → List ℕ → ℕ → Arc
 row_arc place s r =
-    record { from = u16_at s (12 + 12 * r) + 1; to = u16_at s (14 + 12 * r) + 1; number = u32_at s (12 + place + 12 * r) }
+    record {
+      from = u16_at s (12 + 12 * r) + 1;
+      to = u16_at s (14 + 12 * r) + 1;
+      number = u32_at s
+          (12 + place + 12 * r);
+    }
 
 -- m rows stand in the bytes s, and in each row a number at `place`
 pub record RowsThere (s : List ℕ) (m place : ℕ) : Type 0 where

@@ -1,5 +1,4 @@
 -- `find` goes down a chain.
-use Prim.Native.Nat.{◌-◌}
 use mathlib.Core.Path.{◌≡◌}
 use lib.ListN.{length}
 use Rattle.arcs.specs.work.Chunk.{Buckets, Downward}

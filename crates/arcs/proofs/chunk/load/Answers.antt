@@ -1,4 +1,3 @@
-use Prim.Native.Nat.{◌-◌}
 use native.Mathlib.Omega.{arith}
 use lib.ListN.{length-set}
 use Rattle.arcs.proofs.Loading.{loaded_none, loaded_more, loaded_end, loaded_all}

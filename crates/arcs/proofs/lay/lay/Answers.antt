@@ -1,8 +1,17 @@
-use Prim.Native.Nat.{◌-◌, ◌<◌}
+use Prim.Native.Nat.{◌<◌}
 use mathlib.Core.Path.{ap, ◌∙◌}
 use native.Mathlib.Omega.{arith}
 use lib.ListN.{length-set}
-use Rattle.arcs.proofs.Laying.{laying_none, key_found, back_found, ends_some, laying_again, laying_room, laying_new, laying_all}
+use Rattle.arcs.proofs.Laying.{
+  laying_none,
+  key_found,
+  back_found,
+  ends_some,
+  laying_again,
+  laying_room,
+  laying_new,
+  laying_all,
+}
 use Rattle.arcs.proofs.Chunks.{key_there}
 use Rattle.arcs.specs.work.Chunk.{turned_key, key_at, LastAt}
 use lib.Seq.{length-sets}
@@ -25,7 +34,8 @@ room_here c =
     let loop-j = c.loop-j.j in
     let loop-seen = c.loop-j.seen in
     let h = c.loop-j.invariant in
-    laying_room _ _ _ _ _ _ loop-j loop-c _ loop-seen _ (omega arith) ((key_there _ (c.turned.ensures ∙ ap turned_key c.key_of-key.ensures) c.find-y.ensures)) h.6 _ _ h.2
+    laying_room _ _ _ _ _ _ loop-j loop-c _ loop-seen _ (omega arith)
+    ((key_there _ (c.turned.ensures ∙ ap turned_key c.key_of-key.ensures) c.find-y.ensures)) h.6 _ _ h.2
     c.if-seen-y-eq0.true
 
 pub loop-j-init : goal.loop-j-init
@@ -132,7 +142,8 @@ loop-j-preserved c =
       omega (arith, h.3, loop-test-taken),
       h.4,
       h.5,
-      laying_again _ _ _ _ _ _ loop-j loop-c _ loop-seen _ loop-test-taken (back_here (goal.at.loop-j-preserved c).After-find-y) h.6
+      laying_again _ _ _ _ _ _ loop-j loop-c _ loop-seen _ loop-test-taken
+          (back_here (goal.at.loop-j-preserved c).After-find-y) h.6
           c.if-seen-y-eq0.false,
     )
 

@@ -1,4 +1,3 @@
-use Prim.Native.Nat.{◌-◌}
 use native.Mathlib.Omega.{arith}
 use Rattle.arcs.proofs.Chunks.{tells_true, tells_false}
 use borrow.Author.Count.{below_more}

@@ -1,4 +1,3 @@
-use Prim.Native.Nat.{◌-◌}
 use native.Mathlib.Omega.{arith}
 use Rattle.arcs.proofs.Streams.{meeting_none, meeting_more, met_fault, met}
 use Rattle.arcs.proofs.many.meets.Goals as goal

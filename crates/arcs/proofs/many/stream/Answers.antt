@@ -1,4 +1,3 @@
-use Prim.Native.Nat.{◌-◌}
 use native.Mathlib.Omega.{arith}
 use Rattle.arcs.proofs.Streams.{streaming_none, streaming_more, streamed_fault, streamed}
 use Rattle.arcs.proofs.many.stream.Goals as goal

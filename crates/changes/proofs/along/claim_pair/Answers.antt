@@ -35,7 +35,8 @@ returns-then-marks-wide c =
 
 pub returns-then-not_a_run : goal.returns-then-not_a_run
 returns-then-not_a_run c =
-    passed (marked (goal.at.returns-then-not_a_run c).Else-marks-wide) (refused (c.not_a_run.ensures.0 c.if-not_a_run.true))
+    passed (marked (goal.at.returns-then-not_a_run c).Else-marks-wide)
+    (refused (c.not_a_run.ensures.0 c.if-not_a_run.true))
 
 pub returns-then-nodes-a : goal.returns-then-nodes-a
 returns-then-nodes-a c =
@@ -64,4 +65,5 @@ claim_walked-requires c =
 pub returns : goal.returns
 returns c =
     passed (marked (goal.at.returns c).Else-marks-wide)
-    (passed (numbered (goal.at.returns c).Else-not_a_run) (passed (two (goal.at.returns c).Else-a-b) c.claim_walked.ensures))
+    (passed (numbered (goal.at.returns c).Else-not_a_run) (passed (two (goal.at.returns c).Else-a-b)
+    c.claim_walked.ensures))

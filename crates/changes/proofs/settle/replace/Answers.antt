@@ -1,5 +1,4 @@
 use Rattle.changes.proofs.Replacing.{replacing_start, replacing_hit, replacing_miss, replacing_end}
-use Prim.Native.Nat.{◌-◌}
 use native.Mathlib.Omega.{arith}
 use Rattle.changes.proofs.settle.replace.Goals as goal
 

@@ -8,7 +8,8 @@ use Rattle.changeset.proofs.buffer.put_all.Given as goal
 
 abbrev pub invariant-loop-i : goal.invariant-loop-i
 invariant-loop-i l =
-    (length l.out ≡ length l.initial.out) × (l.i ≤ l.last) × (l.last + 2 ≡ l.n) × AllPut l.table l.c l.n l.i l.out × EachOwn l.c l.i l.off
+    (length l.out ≡ length l.initial.out) × (l.i ≤ l.last) × (l.last + 2 ≡ l.n) × AllPut l.table l.c l.n l.i l.out ×
+    EachOwn l.c l.i l.off
 
 abbrev pub decreases-loop-i : goal.decreases-loop-i
 decreases-loop-i l = l.last - l.i

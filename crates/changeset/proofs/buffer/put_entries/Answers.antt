@@ -1,4 +1,3 @@
-use Prim.Native.Nat.{◌-◌}
 use mathlib.Core.Path.{refl, ◌∙◌}
 use native.Mathlib.Omega.{arith}
 use Rattle.changeset.proofs.Overlay.{overlaid_none, overlaid_falls, overlaid_far, overlaid_more, overlaid_all}

@@ -1,5 +1,4 @@
 use borrow.Author.Count.{below_more}
-use Prim.Native.Nat.{◌-◌}
 use mathlib.Core.Path.{sym, ◌∙◌}
 use native.Mathlib.Omega.{arith}
 use Rattle.changeset.proofs.Showing.{search_found, search_none}

@@ -29,7 +29,11 @@ pub returns-then-c-ne1 : goal.returns-then-c-ne1
 returns-then-c-ne1 c = record { holds = λ e. absurd (false≢true e); fails = λ e h. c.if-c-ne1.true h.sort }
 
 pub returns-then-c-ne0 : goal.returns-then-c-ne0
-returns-then-c-ne0 c = record { holds = λ e. absurd (false≢true e); fails = λ e h. omega (arith, h.size, c.if-c-ne0.true) }
+returns-then-c-ne0 c = record {
+  holds = λ e. absurd (false≢true e);
+  fails = λ e h. omega
+      (arith, h.size, c.if-c-ne0.true);
+}
 
 pub returns : goal.returns
 returns c =

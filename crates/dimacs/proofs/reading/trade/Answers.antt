@@ -3,7 +3,18 @@
 use Prim.Native.Nat.{ℕ}
 use native.Mathlib.Omega.{arith}
 use lib.ListN.{length-replicate}
-use Rattle.dimacs.proofs.Traded.{lengths_from, weights_from, header_in, header_long, arcs_refused, room_refused, many_tested, table_long, part_long, table_tested}
+use Rattle.dimacs.proofs.Traded.{
+  lengths_from,
+  weights_from,
+  header_in,
+  header_long,
+  arcs_refused,
+  room_refused,
+  many_tested,
+  table_long,
+  part_long,
+  table_tested,
+}
 use Rattle.dimacs.proofs.reading.trade.Goals as goal
 
 pub rows-k-requires : goal.rows-k-requires
@@ -54,7 +65,8 @@ slice_bounds-made-end c =
       arith,
       c.if-arcs-gt8190.false,
       table_long pre args.bound args.table.now _ (rows-ensures _ (lengths_from pre) _ (weights_from pre))
-          if1-left (omega (arith, c.if-arcs-gt8190.false)) (header_in _ (length-replicate {A = ℕ} 49152 0) put-header-ensures),
+          if1-left (omega (arith, c.if-arcs-gt8190.false)) (header_in _ (length-replicate {A = ℕ} 49152 0)
+          put-header-ensures),
     )
 
 pub slice_bounds-give-end : goal.slice_bounds-give-end

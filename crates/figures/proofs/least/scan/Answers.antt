@@ -1,4 +1,3 @@
-use Prim.Native.Nat.{◌-◌}
 use native.Mathlib.Omega.{arith}
 use Rattle.figures.proofs.Leasts.{least_none, scan_step, scan_end}
 use Rattle.figures.proofs.least.scan.Goals as goal

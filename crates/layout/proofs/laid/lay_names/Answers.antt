@@ -1,7 +1,5 @@
-use Prim.Native.Nat.{◌-◌}
 use mathlib.Core.Path.{◌≡◌, refl}
 use native.Mathlib.Omega.{arith}
-use Rattle.arrays.specs.At.{at}
 use Rattle.layout.proofs.Laying.{laid_none, laid_more, spot_small}
 use Rattle.layout.proofs.laid.lay_names.Goals as goal
 

@@ -1,13 +1,16 @@
-use Prim.Native.Nat.{◌-◌}
 use mathlib.Core.Path.{◌≡◌}
 use native.Mathlib.Omega.{arith}
-use Rattle.arrays.specs.At.{at}
 use Rattle.layout.proofs.Laying.{laid_none, laid_more, spot_small}
 use Rattle.layout.proofs.laid.lay_spots.Goals as goal
 
 pub loop-v-init : goal.loop-v-init
-loop-v-init c =
-    (omega arith, omega (arith, c.requires.spots.some), c.requires.spots, laid_none _ _ _ _ c.fill.ensures, c.requires.by_index)
+loop-v-init c = (
+  omega arith,
+  omega (arith, c.requires.spots.some),
+  c.requires.spots,
+  laid_none _ _ _ _ c.fill.ensures,
+  c.requires.by_index,
+)
 
 pub offset_bounds-spot-v : goal.offset_bounds-spot-v
 offset_bounds-spot-v c = omega (arith, c.loop-v.invariant.2.small)

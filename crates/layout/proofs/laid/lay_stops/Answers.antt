@@ -1,7 +1,6 @@
-use Prim.Native.Nat.{◌-◌, ◌<◌}
+use Prim.Native.Nat.{◌<◌}
 use mathlib.Core.Path.{◌≡◌, refl}
 use native.Mathlib.Omega.{arith}
-use Rattle.arrays.specs.At.{at}
 use Rattle.layout.proofs.Laying.{laid_none, laid_more, spot_small}
 use Rattle.layout.proofs.laid.lay_stops.Goals.{After-wide-s, In-loop-v}
 use Rattle.layout.proofs.laid.lay_stops.Goals as goal
@@ -15,8 +14,13 @@ spot_in c =
     spot_small _ _ _ _ loop-inv.2 c.loop-v-test.true c.wide-s.ensures.0
 
 pub loop-v-init : goal.loop-v-init
-loop-v-init c =
-    (omega arith, omega (arith, c.requires.spots.some), c.requires.spots, laid_none _ _ _ _ c.fill.ensures, c.requires.by_index)
+loop-v-init c = (
+  omega arith,
+  omega (arith, c.requires.spots.some),
+  c.requires.spots,
+  laid_none _ _ _ _ c.fill.ensures,
+  c.requires.by_index,
+)
 
 pub offset_bounds-spot-v : goal.offset_bounds-spot-v
 offset_bounds-spot-v c = omega (arith, node_in c)

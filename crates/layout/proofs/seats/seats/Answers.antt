@@ -1,4 +1,4 @@
-use Prim.Native.Nat.{◌-◌, ◌<◌}
+use Prim.Native.Nat.{◌<◌}
 use mathlib.Core.Path.{◌≡◌}
 use native.Mathlib.Omega.{arith}
 use Rattle.reach.proofs.Grown.{read_node, read_parent}
@@ -44,7 +44,14 @@ seat_of-t-requires c =
     let h = c.loop-i.invariant in
     let l = c.loop-i-test.true in
     let ev = c.wide-v.ensures.0 in
-    let ep = c.wide-p.ensures.0 in record { p_bound = (parent_in c, node_in (goal.at.seat_of-t-requires c).After-wide-v); seat_room = seat_room h.2 _ h.3 _ _ _ _ _ h.0 l ev ep h.4 }
+    let ep = c.wide-p.ensures.0 in record {
+      p_bound = (
+        parent_in c,
+        node_in
+            (goal.at.seat_of-t-requires c).After-wide-v,
+      );
+      seat_room = seat_room h.2 _ h.3 _ _ _ _ _ h.0 l ev ep h.4;
+    }
 
 pub offset_bounds-spot-v : goal.offset_bounds-spot-v
 offset_bounds-spot-v c = omega (arith, node_in (goal.at.offset_bounds-spot-v c).After-wide-v)

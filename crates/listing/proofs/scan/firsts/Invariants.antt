@@ -12,7 +12,8 @@ use Rattle.listing.proofs.scan.firsts.Given as goal
 
 abbrev pub invariant-loop-u : goal.invariant-loop-u
 invariant-loop-u l =
-    Scanning (Ground l.n l.parent l.order l.place l.bl l.bw) (Taken l.n l.parent l.order l.place l.bl l.bw (Fits l.limit) l.floor) l.low
+    Scanning (Ground l.n l.parent l.order l.place l.bl l.bw) (Taken l.n l.parent l.order l.place l.bl l.bw
+    (Fits l.limit) l.floor) l.low
     l.high l.initial.rows l.room l.u l.k.given l.k.left l.rows
     × Ground l.n l.parent l.order l.place l.bl l.bw
     × ArraysLent l.above l.len l.wt

@@ -1,4 +1,3 @@
-use Prim.Native.Nat.{◌-◌}
 use native.Mathlib.Omega.{arith}
 use Rattle.parts.proofs.Splitting.{splitting_first, splitting_more, cut_prev, cut_end, cut_next}
 use Rattle.parts.proofs.items.split.Goals as goal

@@ -6,7 +6,8 @@ use Rattle.parts.proofs.items.split.Given as goal
 
 abbrev pub invariant-loop-i : goal.invariant-loop-i
 invariant-loop-i l =
-    Splitting l.stop l.head l.parent l.h l.s l.e l.prev l.i × (l.mid < l.e) × (l.e ≤ 4096) × (l.s < l.prev → l.prev < l.mid)
+    Splitting l.stop l.head l.parent l.h l.s l.e l.prev l.i × (l.mid < l.e) × (l.e ≤ 4096) ×
+    (l.s < l.prev → l.prev < l.mid)
 
 abbrev pub decreases-loop-i : goal.decreases-loop-i
 decreases-loop-i l = l.e - l.i

@@ -1,4 +1,3 @@
-use Prim.Native.Nat.{◌-◌}
 use native.Mathlib.Omega.{arith}
 use Rattle.roads.proofs.Skipping.{word_short, word_other, matching_none, matching_more, matching_done}
 use Rattle.roads.proofs.line.after_word.Goals as goal

@@ -1,4 +1,3 @@
-use Prim.Native.Nat.{◌-◌}
 use native.Mathlib.Omega.{arith}
 use Rattle.roads.proofs.Skipping.{skip_none, skip_more, skip_found, skip_out}
 use Rattle.roads.proofs.line.line_end.Goals as goal

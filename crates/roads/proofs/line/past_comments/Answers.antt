@@ -1,4 +1,3 @@
-use Prim.Native.Nat.{◌-◌}
 use native.Mathlib.Omega.{arith}
 use Rattle.roads.proofs.Skipping.{passing_none, passing_more, passing_other, passing_unended, passing_out}
 use Rattle.roads.proofs.line.past_comments.Goals as goal

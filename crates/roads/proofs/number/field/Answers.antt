@@ -1,6 +1,14 @@
-use Prim.Native.Nat.{◌-◌}
 use native.Mathlib.Omega.{arith}
-use Rattle.roads.proofs.Scanning.{scan_past, scan_none, scan_first, scan_more, scan_found, scan_other, scan_zero, scan_out}
+use Rattle.roads.proofs.Scanning.{
+  scan_past,
+  scan_none,
+  scan_first,
+  scan_more,
+  scan_found,
+  scan_other,
+  scan_zero,
+  scan_out,
+}
 use Rattle.roads.proofs.number.field.Goals as goal
 
 pub returns-then-s-at : goal.returns-then-s-at

@@ -20,26 +20,30 @@ pub returns-then-c-d : goal.returns-then-c-d
 returns-then-c-d c =
     let survey-of2-ensures = c.survey_of-2.ensures in
     let survey-of-ensures = c.survey_of.ensures in
-    disagree (omega arith) (omega arith) (rw c.in-Numbers.is at survey-of-ensures) (rw c.in-Numbers-survey_of.is at survey-of2-ensures)
+    disagree (omega arith) (omega arith) (rw c.in-Numbers.is at survey-of-ensures)
+    (rw c.in-Numbers-survey_of.is at survey-of2-ensures)
     (λ e f g h. omega arith)
 
 pub returns-then-c-k : goal.returns-then-c-k
 returns-then-c-k c =
     let survey-of2-ensures = c.survey_of-2.ensures in
     let survey-of-ensures = c.survey_of.ensures in
-    disagree (omega arith) (omega arith) (rw c.in-Numbers.is at survey-of-ensures) (rw c.in-Numbers-survey_of.is at survey-of2-ensures)
+    disagree (omega arith) (omega arith) (rw c.in-Numbers.is at survey-of-ensures)
+    (rw c.in-Numbers-survey_of.is at survey-of2-ensures)
     (λ e f g h. omega arith)
 
 pub returns-then-d-l : goal.returns-then-d-l
 returns-then-d-l c =
     let survey-of2-ensures = c.survey_of-2.ensures in
     let survey-of-ensures = c.survey_of.ensures in
-    disagree (omega arith) (omega arith) (rw c.in-Numbers.is at survey-of-ensures) (rw c.in-Numbers-survey_of.is at survey-of2-ensures)
+    disagree (omega arith) (omega arith) (rw c.in-Numbers.is at survey-of-ensures)
+    (rw c.in-Numbers-survey_of.is at survey-of2-ensures)
     (λ e f g h. omega arith)
 
 pub returns : goal.returns
 returns c =
     let survey-of2-ensures = c.survey_of-2.ensures in
     let survey-of-ensures = c.survey_of.ensures in
-    agree (omega arith) (omega arith) (rw c.in-Numbers.is at survey-of-ensures) (rw c.in-Numbers-survey_of.is at survey-of2-ensures)
+    agree (omega arith) (omega arith) (rw c.in-Numbers.is at survey-of-ensures)
+    (rw c.in-Numbers-survey_of.is at survey-of2-ensures)
     (omega arith) (omega arith) (omega arith) (omega arith)

@@ -1,4 +1,3 @@
-use Prim.Native.Nat.{◌-◌}
 use native.Mathlib.Omega.{arith}
 use Rattle.roads.proofs.Surveying.{counting_none, counting_more, counting_bad, counting_done, arc_further}
 use Rattle.roads.proofs.whole.count_arcs.Goals as goal

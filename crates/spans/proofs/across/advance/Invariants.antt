@@ -7,7 +7,8 @@ use Rattle.spans.proofs.across.advance.Given as goal
 
 abbrev pub invariant-loop-j : goal.invariant-loop-j
 invariant-loop-j l =
-    Walkable l.d l.down l.m l.e l.key × Sofar l.limit.exact l.name l.d l.w l.down l.m l.e l.j l.node × Going l.d l.down l.e l.key l.limit.most l.initial.j l.j
+    Walkable l.d l.down l.m l.e l.key × Sofar l.limit.exact l.name l.d l.w l.down l.m l.e l.j l.node × Going l.d l.down
+    l.e l.key l.limit.most l.initial.j l.j
 
 abbrev pub decreases-loop-j : goal.decreases-loop-j
 decreases-loop-j l = l.e - l.j

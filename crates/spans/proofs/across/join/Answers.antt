@@ -43,14 +43,23 @@ try_pair-all-requires c =
     let h = c.loop-i.invariant in
     let q = c.wide-x.ensures.0 in
     let t = c.loop-i-test.true in
-    record { given = h.1.given; x_bound = (sweep_node _ _ _ _ _ _ _ _ _ _ _ _ _ _ _ _ _ h.0 h.1 t q, c.advance-p.ensures.sofar_2.small) }
+    record {
+      given = h.1.given;
+      x_bound = (
+        sweep_node _ _ _ _ _ _ _ _ _ _ _ _ _ _ _ _ _ h.0 h.1 t q,
+        c.advance-p.ensures.sofar_2.small,
+      );
+    }
 
 pub loop-i-preserved : goal.loop-i-preserved
 loop-i-preserved c =
     let h = c.loop-i.invariant in
     let q = c.wide-x.ensures.0 in
-    let t = c.loop-i-test.true in
-    (sweep_back _ _ _ _ _ _ _ _ _ _ _ _ _ _ _ _ _ _ _ _ h.0 h.1 t q c.advance-p.ensures.sofar_2 c.advance-p.ensures.advanced c.try_pair-all.ensures, h.1)
+    let t = c.loop-i-test.true in (
+      sweep_back _ _ _ _ _ _ _ _ _ _ _ _ _ _ _ _ _ _ _ _ h.0 h.1 t q c.advance-p.ensures.sofar_2
+          c.advance-p.ensures.advanced c.try_pair-all.ensures,
+      h.1,
+    )
 
 pub returns : goal.returns
 returns c = sweep_all _ _ _ _ _ _ _ _ _ _ _ _ _ _ _ _ c.loop-i.invariant.0 c.loop-i-test.false

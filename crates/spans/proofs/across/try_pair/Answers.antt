@@ -9,8 +9,18 @@ returns-then-j-m c = tried_none _ _ _ _ _ _ _ _ _ _ _ (λ h _. omega arith)
 
 pub overflow_add-length : goal.overflow_add-length
 overflow_add-length c =
-    omega (arith, c.requires.given.up_key.small _ c.requires.x_bound.0, c.requires.given.down_key.small _ c.requires.x_bound.1)
+    omega (
+      arith,
+      c.requires.given.up_key.small _ c.requires.x_bound.0,
+      c.requires.given.down_key.small _
+          c.requires.x_bound.1,
+    )
 
 pub overflow_add-weight : goal.overflow_add-weight
 overflow_add-weight c =
-    omega (arith, c.requires.given.up_weight.small _ c.requires.x_bound.0, c.requires.given.down_weight.small _ c.requires.x_bound.1)
+    omega (
+      arith,
+      c.requires.given.up_weight.small _ c.requires.x_bound.0,
+      c.requires.given.down_weight.small _
+          c.requires.x_bound.1,
+    )

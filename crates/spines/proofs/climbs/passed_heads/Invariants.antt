@@ -6,7 +6,8 @@ use Rattle.spines.proofs.climbs.passed_heads.Given as goal
 
 abbrev pub invariant-loop-v : goal.invariant-loop-v
 invariant-loop-v l =
-    HeadsClimbable l.parent l.place l.head l.x l.t × ((k : HeadsClimbable l.parent l.place l.head l.x l.t) → Passing k l.v l.passed)
+    HeadsClimbable l.parent l.place l.head l.x l.t × ((k : HeadsClimbable l.parent l.place l.head l.x l.t) → Passing k
+    l.v l.passed)
 
 abbrev pub decreases-loop-v : goal.decreases-loop-v
 decreases-loop-v l = at l.place l.v

@@ -1,4 +1,4 @@
-use Prim.Native.Nat.{◌-◌, ◌<◌}
+use Prim.Native.Nat.{◌<◌}
 use native.Mathlib.Omega.{arith}
 use Rattle.reach.proofs.Grown.{read_node, read_parent}
 use Rattle.spines.proofs.HeadSweep.{heads_one, heads_more, heads_all}

@@ -1,6 +1,5 @@
 use Prim.Native.Nat.{◌-◌, ◌<◌}
 use native.Mathlib.Omega.{arith}
-use Rattle.arrays.specs.At.{at}
 use Rattle.reach.proofs.Grown.{read_node, read_parent}
 use Rattle.spines.proofs.LeafSweep.{leaves_none, leaves_next, leaves_all, leaves_fit}
 use Rattle.spines.proofs.sweeps.leaves_of.Goals.{After-wide-p, After-wide-v}

@@ -1,4 +1,4 @@
-use Prim.Native.Nat.{◌-◌, ◌<◌}
+use Prim.Native.Nat.{◌<◌}
 use native.Mathlib.Omega.{arith}
 use Rattle.spines.proofs.MainSweep.{bests_none, bests_more, mains_all, best_small, read_child}
 use Rattle.spines.proofs.sweeps.mains_of.Goals.{After-wide-p}

@@ -1,5 +1,4 @@
 use native.Mathlib.Omega.{arith}
-use Rattle.net.specs.Net.{first_end}
 use Rattle.tree.proofs.Begins.{readable_less}
 use Rattle.tree.proofs.Around.{round_start, round_fits, round_less, round_more, round_end}
 use Rattle.tree.proofs.round.count_round.Goals as goal

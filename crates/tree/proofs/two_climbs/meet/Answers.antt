@@ -1,6 +1,6 @@
 use Rattle.arrays.specs.At.{at}
 use Rattle.tree.proofs.Meeting.{meeting_start, meeting_step, meeting_flip, meeting_end, later_low, apart_later}
-use Prim.Native.Nat.{◌-◌, ◌<◌}
+use Prim.Native.Nat.{◌<◌}
 use mathlib.Core.Path.{ap}
 use native.Mathlib.Omega.{arith}
 use Rattle.tree.proofs.two_climbs.meet.Goals.{At-loop-a}

@@ -3,7 +3,7 @@
 -- (`a_in`, `b_in`), so what is read at them is there.
 use Rattle.arrays.specs.At.{at}
 use Rattle.tree.proofs.Meeting.{Meeting}
-use Prim.Native.Nat.{◌+◌, ◌-◌}
+use Prim.Native.Nat.{◌+◌}
 use Rattle.tree.proofs.two_climbs.meet.Given as goal
 
 abbrev pub invariant-loop-a : goal.invariant-loop-a

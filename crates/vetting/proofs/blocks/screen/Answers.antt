@@ -1,7 +1,15 @@
-use Prim.Native.Nat.{◌-◌}
 use native.Mathlib.Omega.{arith}
 use Rattle.vetting.proofs.Belonging.{meant_paired}
-use Rattle.vetting.proofs.Standing.{asked_numbers, blocks_start, block_of, repeatable, known_low, blocks_skip, blocks_next, blocks_end}
+use Rattle.vetting.proofs.Standing.{
+  asked_numbers,
+  blocks_start,
+  block_of,
+  repeatable,
+  known_low,
+  blocks_skip,
+  blocks_next,
+  blocks_end,
+}
 use Rattle.vetting.proofs.blocks.screen.Goals as goal
 
 pub nonzero_div-height : goal.nonzero_div-height

@@ -1,4 +1,3 @@
-use Prim.Native.Nat.{◌-◌}
 use native.Mathlib.Omega.{arith}
 use Rattle.vetting.proofs.Lacking.{highs_start, highs_next, highs_found, highs_end}
 use Rattle.vetting.proofs.lacks.first_high.Goals as goal

@@ -1,4 +1,3 @@
-use Prim.Native.Nat.{◌-◌}
 use native.Mathlib.Omega.{arith}
 use Rattle.vetting.proofs.Lacking.{lows_start, lows_next, lows_found, lows_end}
 use Rattle.vetting.proofs.lacks.first_lack.Goals as goal

@@ -7,7 +7,8 @@ use Rattle.vetting.proofs.lacks.first_lack.Given as goal
 
 abbrev pub invariant-loop-next : goal.invariant-loop-next
 invariant-loop-next l =
-    Lows (Meant l.spot l.above l.far l.heavy l.n l.limit l.sums) (InSet l.n l.from l.bits) l.n l.from l.end l.initial.low l.initial.high l.low l.high l.next
+    Lows (Meant l.spot l.above l.far l.heavy l.n l.limit l.sums) (InSet l.n l.from l.bits) l.n l.from l.end
+    l.initial.low l.initial.high l.low l.high l.next
 
 abbrev pub decreases-loop-next : goal.decreases-loop-next
 decreases-loop-next l = l.n - l.next

@@ -1,4 +1,3 @@
-use Prim.Native.Nat.{◌-◌}
 use native.Mathlib.Omega.{arith}
 use Rattle.vetting.proofs.Repeating.{passing_start, passing_next, passing_found, passing_end}
 use Rattle.vetting.proofs.repeats.first_repeat.Goals as goal

@@ -2,7 +2,15 @@
 -- entry's byte for byte.
 use mathlib.Core.Path.{sym, ◌∙◌}
 use native.Mathlib.Omega.{arith}
-use Rattle.vetting.proofs.Belonging.{figures_asked, figures_named, foreign_order, foreign_node, foreign_length, foreign_weight, belongs_by}
+use Rattle.vetting.proofs.Belonging.{
+  figures_asked,
+  figures_named,
+  foreign_order,
+  foreign_node,
+  foreign_length,
+  foreign_weight,
+  belongs_by,
+}
 use Rattle.vetting.proofs.rows.belongs.Goals as goal
 
 pub overflow_mul-p : goal.overflow_mul-p

@@ -1,4 +1,3 @@
-use Prim.Native.Nat.{◌-◌}
 use native.Mathlib.Omega.{arith}
 use Rattle.vetting.proofs.Foreigners.{rows_start, rows_next, rows_found, rows_end}
 use Rattle.vetting.proofs.rows.first_foreign.Goals as goal

@@ -1,6 +1,4 @@
-use Prim.Native.Nat.{◌-◌}
 use mathlib.Core.Path.{◌≡◌, refl}
-use mathlib.Core.Logic.{⊎_elim}
 use native.Mathlib.Omega.{arith}
 use Rattle.window.proofs.Bettering.{bettered_none, bettered_from, bettered_skip, bettered_take}
 use Rattle.window.proofs.best.among.Goals.{then-takes, else-takes}
@@ -14,8 +12,9 @@ loop-v-preserved c =
     let takes-ensures = c.takes.ensures in
     let h = c.loop-v.invariant in (
       elim c.if-takes.branch [
-        then-takes w ↦
-            rw w.best-is (bettered_take _ h.0 _ _ refl refl h.1 (takes-ensures.holds w.if-takes.true) w.better-best.ensures)
+        | then-takes w ↦
+            rw w.best-is (bettered_take _ h.0 _ _ refl refl h.1 (takes-ensures.holds w.if-takes.true)
+            w.better-best.ensures)
         | else-takes w ↦
             rw w.best-is (bettered_skip _ h.0 _ _ refl refl (takes-ensures.fails w.if-takes.false))
       ],
