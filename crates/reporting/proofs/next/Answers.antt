@@ -22,10 +22,7 @@ next_page-requires c =
     let if2-left = c.if-p-2.false in
     let if1-taken = c.if-p.true in
     let pre = c.requires in
-    (pre.0, omega (arith, if2-left), omega (arith, c.if-p-gt0.true), pre.1.goes if1-taken)
-
-pub returns-then-p-gt0 : goal.returns-then-p-gt0
-returns-then-p-gt0 c = c.next_page.ensures
+    (pre.0, omega (arith, if2-left), omega arith, pre.1.goes if1-taken)
 
 pub total-n-requires : goal.total-n-requires
 total-n-requires c =
@@ -35,12 +32,11 @@ total-n-requires c =
 pub returns-then-p : goal.returns-then-p
 returns-then-p c =
     let total-ensures = c.total-n.ensures in
-    let if3-left = c.if-p-gt0.false in
     let if2-left = c.if-p-2.false in
     let if1-taken = c.if-p.true in
     let pre = c.requires in (
       put_shown c.last.ensures
-          (going_last (pre.1.goes if1-taken) (omega (arith, if2-left)) (omega (arith, if3-left))) total-ensures.0,
+          (going_last (pre.1.goes if1-taken) (omega (arith, if2-left)) (omega arith)) total-ensures.0,
       c.last.ensures.1,
     )
 
