@@ -18,16 +18,19 @@ mod roads;
 mod trades;
 mod worked;
 
-use asks::Said;
+use asks::{Ask, Op, Said};
 use cases::Case;
 use std::io::{stdin, stdout, BufReader, BufWriter, Result, Write};
 use trades::Trade;
 
 const USAGE: &str = "\
-usage: oracle make SEED COUNT LIMIT [worked] > CASES     COUNT random cases of at most LIMIT nodes (1 to 4096), then
-                                                         as many meshes (of at most 256); the hand-worked ones of
-                                                         oracle/worked.txt first
-       oracle answer [worked] < CASES                    a line for each ask; of the hand-worked ones the answer that
+usage: oracle make SEED COUNT LIMIT [worked] [meshes] > CASES
+                                                         COUNT random cases of at most LIMIT nodes (1 to 4096);
+                                                         the hand-worked ones of oracle/worked.txt first; with
+                                                         meshes each case is asked as a mesh too, as many random
+                                                         meshes (of at most 256 nodes) follow, and the hand-worked
+                                                         ones of oracle/meshes.txt stand behind those of worked.txt
+       oracle answer [worked] [meshes] < CASES           a line for each ask; of the hand-worked ones the answer that
                                                          is written there
        oracle tables SEED COUNT LIMIT [first] > TABLES   COUNT random tables for the report; its own cases first
        oracle report < TABLES                            the report of each table, and with its change set
@@ -46,14 +49,32 @@ fn fail(why: &str) -> ! {
     std::process::exit(1)
 }
 
-/// Seed, count, limit, and whether the word that may follow stands there.
-fn asked(args: &mut impl Iterator<Item = String>, word: &str) -> (u64, usize, usize, bool) {
+/// Seed, count, limit.
+fn numbers(args: &mut impl Iterator<Item = String>) -> (u64, usize, usize) {
     let mut number = || args.next().and_then(|a| a.parse().ok()).unwrap_or_else(|| usage());
     let (seed, count, limit) = (number(), number() as usize, number() as usize);
     if !(1..=4096).contains(&limit) {
         usage();
     }
+    (seed, count, limit)
+}
+
+/// The same, and whether the word that may follow stands there.
+fn asked(args: &mut impl Iterator<Item = String>, word: &str) -> (u64, usize, usize, bool) {
+    let (seed, count, limit) = numbers(args);
     (seed, count, limit, is(args, word))
+}
+
+/// Whether the words `worked` and `meshes` stand there, one, both in this order, or none.
+fn two_words(args: &mut impl Iterator<Item = String>) -> (bool, bool) {
+    let words: Vec<String> = args.collect();
+    match words.iter().map(String::as_str).collect::<Vec<_>>()[..] {
+        [] => (false, false),
+        ["worked"] => (true, false),
+        ["meshes"] => (false, true),
+        ["worked", "meshes"] => (true, true),
+        _ => usage(),
+    }
 }
 
 fn is(args: &mut impl Iterator<Item = String>, word: &str) -> bool {
@@ -78,17 +99,21 @@ fn checked(at: usize, case: &Case) -> Vec<Said> {
     all
 }
 
-/// The hand-worked cases with their lines.
-fn worked() -> Vec<(Case, Vec<String>)> {
-    let all = told(worked::read()).into_iter().enumerate();
+/// The hand-worked cases with their lines, those of meshes too where they are asked for.
+fn worked(meshes: bool) -> Vec<(Case, Vec<String>)> {
+    let all = told(worked::read(meshes)).into_iter().enumerate();
     all.map(|(at, w)| (told(w.lines(&checked(at, &w.case))), w)).map(|(lines, w)| (w.case, lines)).collect()
 }
 
-fn make(seed: u64, count: usize, limit: usize, with_worked: bool) -> Vec<Case> {
-    let known = if with_worked { worked() } else { vec![] };
+fn make(seed: u64, count: usize, limit: usize, with_worked: bool, with_meshes: bool) -> Vec<Case> {
+    let known = if with_worked { worked(with_meshes) } else { vec![] };
     let mut random: Vec<Case> = make::random_cases(seed, count, limit).into_iter().map(|p| p.case()).collect();
-    let mut meshes = make_meshes::random_meshes(seed, count, limit);
-    for (lot, what) in [(&mut random, "cases, fifty-one lines each"), (&mut meshes, "meshes, two lines each")] {
+    let mut meshes = if with_meshes { make_meshes::random_meshes(seed, count, limit) } else { vec![] };
+    for case in random.iter_mut().filter(|_| with_meshes) {
+        case.asks.push(Ask::new(Op::Mesh, "mesh:"));
+    }
+    let each = if with_meshes { "cases, fifty-one lines each" } else { "cases, fifty lines each" };
+    for (lot, what) in [(&mut random, each), (&mut meshes, "meshes, two lines each")] {
         if let Some(first) = lot.first_mut().filter(|_| with_worked) {
             first.text = format!("\nRandom {what}.\n");
         }
@@ -96,9 +121,9 @@ fn make(seed: u64, count: usize, limit: usize, with_worked: bool) -> Vec<Case> {
     known.into_iter().map(|(case, _)| case).chain(random).chain(meshes).collect()
 }
 
-fn answer(out: &mut impl Write, with_worked: bool) -> Result<()> {
+fn answer(out: &mut impl Write, with_worked: bool, with_meshes: bool) -> Result<()> {
     let cases = cases::read(&mut BufReader::new(stdin().lock()))?;
-    let known = if with_worked { worked() } else { vec![] };
+    let known = if with_worked { worked(with_meshes) } else { vec![] };
     if known.len() > cases.len() || known.iter().zip(&cases).any(|((k, _), c)| k != c) {
         fail("the cases do not begin with those of oracle/worked.txt as it stands");
     }
@@ -148,10 +173,14 @@ fn main() -> Result<()> {
     let mut out = BufWriter::new(stdout().lock());
     match args.next().as_deref() {
         Some("make") => {
-            let (seed, count, limit, with_worked) = asked(&mut args, "worked");
-            cases::write(&mut out, &make(seed, count, limit, with_worked))?;
+            let (seed, count, limit) = numbers(&mut args);
+            let (with_worked, with_meshes) = two_words(&mut args);
+            cases::write(&mut out, &make(seed, count, limit, with_worked, with_meshes))?;
         }
-        Some("answer") => answer(&mut out, is(&mut args, "worked"))?,
+        Some("answer") => {
+            let (with_worked, with_meshes) = two_words(&mut args);
+            answer(&mut out, with_worked, with_meshes)?
+        }
         Some("tables") => {
             let (seed, count, limit, own) = asked(&mut args, "first");
             let mut all = if own { reports::first() } else { vec![] };

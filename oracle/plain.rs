@@ -81,7 +81,7 @@ pub struct Plain {
     pub whole: u16,
     /// What is asked then, with a change set (Req 12).
     pub changes: Changes,
-    /// Then these rows are written, and the table row by row.
+    /// Last of all these rows are written, and the table row by row.
     pub new: [New; 2],
 }
 
@@ -184,14 +184,13 @@ impl Plain {
 
     /// The usual asks: every operation on the table and its marks as they come, then the changes of the marks and what
     /// is said of them then; then the bound is raised and the floor lowered; then every operation is asked with the
-    /// change set; at the end rows are written, and the table is asked about as if it were a mesh. Each change stands
-    /// between two asks for the heaviest run, so that relaxing.rs can compare them.
+    /// change set; at the end rows are written. Each change stands between two asks for the heaviest run, so that
+    /// relaxing.rs can compare them.
     pub fn usual(&self) -> Vec<Ask> {
         let mut asks = self.of_table();
         asks.extend(self.of_changes());
         asks.extend(self.new.map(|new| Ask { shown: 12, ..of(Op::WriteRow, "write row").of_cells(new.row, new.lent) }));
         asks.push(of(Op::WriteRows, "write rows"));
-        asks.push(of(Op::Mesh, "mesh"));
         asks
     }
 

@@ -9,7 +9,7 @@ use crate::plain::{plain, table, version, Branch, Carried, MESH};
 use std::collections::HashMap;
 use std::str::FromStr;
 
-const WORDS: &str = include_str!("worked.txt");
+const WORDS: [(&str, &str); 2] = [("worked.txt", include_str!("worked.txt")), ("meshes.txt", include_str!("meshes.txt"))];
 
 /// How many elements of the lent memory the line of a hand-worked ask shows, where it has as many.
 const SHOWN: u16 = 64;
@@ -17,7 +17,7 @@ const SHOWN: u16 = 64;
 /// A case, and its asks' answers where they are worked out by hand: for each the line of the file and the answer.
 pub struct Worked {
     pub case: Case,
-    answers: Vec<Option<(usize, Said)>>,
+    answers: Vec<Option<(String, Said)>>,
 }
 
 pub type Read<T> = Result<T, String>;
@@ -496,7 +496,7 @@ impl Worked {
 
     /// The marks after the asks so far, as they are written.
     fn marks(&self) -> Vec<u16> {
-        let changed = |(q, a): (&Ask, &Option<(usize, Said)>)| match (q.op, a) {
+        let changed = |(q, a): (&Ask, &Option<(String, Said)>)| match (q.op, a) {
             (Op::Claim | Op::Commit | Op::Abort, Some((_, said))) => said.memory.clone(),
             _ => None,
         };
@@ -510,7 +510,7 @@ impl Worked {
         table
     }
 
-    fn take(&mut self, at: usize, line: &str, nets: &Nets) -> Read<()> {
+    fn take(&mut self, at: &str, line: &str, nets: &Nets) -> Read<()> {
         if let Some(rest) = line.strip_prefix("table ") {
             let (table, free) = table_of(rest, nets)?;
             (self.case.table, self.case.marks) = (table, vec![0; free]);
@@ -531,7 +531,7 @@ impl Worked {
             let ask = ask(asked)?;
             let said = said(&ask, answer, &self.table(), &self.marks())?;
             self.case.asks.push(ask);
-            self.answers.push(Some((at, said)));
+            self.answers.push(Some((at.to_string(), said)));
         }
         Ok(())
     }
@@ -543,7 +543,7 @@ impl Worked {
             None => Ok(ask.line(computed)),
             Some((_, said)) if said == computed => Ok(ask.line(said)),
             Some((at, said)) => Err(format!(
-                "oracle/worked.txt:{at}: the answer written there is not the one computed:\n    {}\n    {}",
+                "{at}: the answer written there is not the one computed:\n    {}\n    {}",
                 ask.line(said),
                 ask.line(computed)
             )),
@@ -571,13 +571,14 @@ pub fn lines(text: &str) -> Vec<(usize, String)> {
     all
 }
 
-/// All of them, in order.
-pub fn read() -> Read<Vec<Worked>> {
+/// All of them, in order; those of meshes.txt where they are asked for.
+pub fn read(meshes: bool) -> Read<Vec<Worked>> {
     let mut nets = Nets::new();
     let mut all: Vec<Worked> = Vec::new();
     let mut net = None;
-    for (at, line) in lines(WORDS) {
-        let told = |why: String| format!("oracle/worked.txt:{at}: {why}");
+    let files = &WORDS[..1 + usize::from(meshes)];
+    for (at, line) in files.iter().flat_map(|(file, text)| lines(text).into_iter().map(move |(at, line)| (format!("oracle/{file}:{at}"), line))) {
+        let told = |why: String| format!("{at}: {why}");
         if let Some(name) = line.strip_prefix("net ") {
             net = Some(name.to_string());
             nets.insert(name.to_string(), vec![]);
@@ -589,7 +590,7 @@ pub fn read() -> Read<Vec<Worked>> {
             net.extend(rows(&line).map_err(told)?);
             alike(net).map_err(told)?;
         } else {
-            all.last_mut().ok_or(told("no case yet".to_string()))?.take(at, &line, &nets).map_err(told)?;
+            all.last_mut().ok_or(told("no case yet".to_string()))?.take(&at, &line, &nets).map_err(told)?;
         }
     }
     Ok(all)

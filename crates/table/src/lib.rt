@@ -70,6 +70,7 @@ fn u32_at(s: &[u8], i: usize) -> u32
 }
 
 // Tests 1 to 6 alone, in order.
+#[tactic(auto, using(crate::proofs::Short::too_short))]
 pub fn open_table(s: &[u8]) -> Opening
     ensures { Opens s.now result }
 {

@@ -22,8 +22,8 @@ use Rattle.listing.specs.Listing.{ListingOf}
 pub record LeavesAre (s nodes : List ℕ) : Type 0 where
   pub only : (x : ℕ) → In x nodes → Leaf (ChildOf (first_end s) (second_end s) (nodes_of s - 1) (nodes_of s))
       (nodes_of s) x
-  pub all : (x : ℕ) → Leaf (ChildOf (first_end s) (second_end s) (nodes_of s - 1) (nodes_of s)) (nodes_of s) x → In x
-      nodes
+  pub all : (x : ℕ) → Leaf (ChildOf (first_end s) (second_end s) (nodes_of s - 1) (nodes_of s)) (nodes_of s) x
+      → In x nodes
 
 pub data Case : Type 0 where
   accept : (s : List ℕ) → AcceptAnswer → Case

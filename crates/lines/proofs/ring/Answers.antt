@@ -13,4 +13,4 @@ returns-then-number-eq11 c =
     (put_as (sym (ring_told _ if1-taken)) c.field.ensures.0, omega arith)
 
 pub returns : goal.returns
-returns c = (put_as (sym (none_told _ c.if-number-eq11.false)) (put_none _ _ (omega arith)), omega arith)
+returns c = (put_as (sym (none_told _ (λ e. omega (arith, e)))) (put_none _ _ (omega arith)), omega arith)

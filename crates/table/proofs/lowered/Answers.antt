@@ -8,9 +8,6 @@ use mathlib.Core.Path.{refl}
 use native.Mathlib.Omega.{arith}
 use Rattle.table.proofs.lowered.Goals as goal
 
-pub returns-then-x-ge-SUM_END : goal.returns-then-x-ge-SUM_END
-returns-then-x-ge-SUM_END c = record { back = λ h. absurd (omega arith); none = λ h. refl }
-
 pub overflow_sub-result : goal.overflow_sub-result
 overflow_sub-result c = minus_fits w64 (8589934591 - c.args.x) (omega arith)
 

@@ -20,7 +20,7 @@ module _ (c : Else-s-ne78) where
   bytes = c.args.s.now
 
   long : 12 ≤ length bytes
-  long = c.if-s-lt12.false
+  long = omega arith
 
   lettered : Lettered bytes
   lettered = (c.if-s-ne82.false, c.if-s-ne84.false, c.if-s-ne78.false)
@@ -37,19 +37,15 @@ versioned : (c : Else-version-gt2)
     → (version_of ((c.args.s.now)) ≡ 1) ⊎ (version_of ((c.args.s.now)) ≡ 2)
 versioned c = one_or_two (omega arith) (omega arith)
 
-pub returns-then-s-lt12 : goal.returns-then-s-lt12
-returns-then-s-lt12 c = refused (λ n. omega arith)
-
 pub returns-then-s-ne82 : goal.returns-then-s-ne82
-returns-then-s-ne82 c = passed c.if-s-lt12.false (refused (λ n. c.if-s-ne82.true n.0))
+returns-then-s-ne82 c = passed (omega arith) (refused (λ n. c.if-s-ne82.true n.0))
 
 pub returns-then-s-ne84 : goal.returns-then-s-ne84
-returns-then-s-ne84 c = passed c.if-s-lt12.false (refused (λ n. c.if-s-ne84.true n.1))
+returns-then-s-ne84 c = passed (omega arith) (refused (λ n. c.if-s-ne84.true n.1))
 
 pub returns-then-s-ne78 : goal.returns-then-s-ne78
 returns-then-s-ne78 c =
-    let if1-left = c.if-s-lt12.false in
-    passed if1-left (refused (λ n. c.if-s-ne78.true n.2))
+    passed (omega arith) (refused (λ n. c.if-s-ne78.true n.2))
 
 pub returns-then-version-lt1 : goal.returns-then-version-lt1
 returns-then-version-lt1 c =

@@ -12,11 +12,11 @@ use mathlib.Core.Path.{◌≡◌, refl, ◌∙◌}
 use mathlib.Core.List.{List}
 use mathlib.Core.Logic.{◌≢◌}
 use native.Mathlib.Omega.{arith}
-use Rattle.table.proofs.row_number.Goals.{After-weight_at, Else-length-gt1000000, Else-u16_at-eq2, Then-u16_at-eq2}
+use Rattle.table.proofs.row_number.Goals.{After-weight_at, After-u32_at-length, Else-u16_at-eq2, Then-u16_at-eq2}
 use Rattle.table.proofs.row_number.Goals as goal
 
 -- 7, 8 and 9 pass
-module _ (c : Else-length-gt1000000) where
+module _ (c : After-u32_at-length) (short : c.u32_at-length.result ≤ 1000000) where
   abbrev bytes : List ℕ
   bytes = c.args.s.now
 
@@ -61,19 +61,19 @@ returns-then-length-gt1000000 c = passed (omega arith, omega arith)
 pub returns-then-u16_at-ge64 : goal.returns-then-u16_at-ge64
 returns-then-u16_at-ge64 c =
     let v = second (goal.at.returns-then-u16_at-ge64 c).Then-u16_at-eq2 in
-    sized (goal.at.returns-then-u16_at-ge64 c).Else-length-gt1000000
+    sized (goal.at.returns-then-u16_at-ge64 c).After-u32_at-length (omega arith)
     (passed (λ n. absurd (n v)) (refused (λ k. omega (arith, k v))))
 
 pub returns-then-u16_at-gt20000 : goal.returns-then-u16_at-gt20000
 returns-then-u16_at-gt20000 c =
     let v = second (goal.at.returns-then-u16_at-gt20000 c).Then-u16_at-eq2 in
-    sized (goal.at.returns-then-u16_at-gt20000 c).Else-length-gt1000000
+    sized (goal.at.returns-then-u16_at-gt20000 c).After-u32_at-length (omega arith)
     (passed (λ n. absurd (n v)) (passed (λ _. omega arith) (refused (λ k. omega (arith, k v)))))
 
 pub returns-then-u16_at-eq2 : goal.returns-then-u16_at-eq2
 returns-then-u16_at-eq2 c =
     let v = second (goal.at.returns-then-u16_at-eq2 c).Then-u16_at-eq2 in
-    sized (goal.at.returns-then-u16_at-eq2 c).Else-length-gt1000000
+    sized (goal.at.returns-then-u16_at-eq2 c).After-u32_at-length (omega arith)
     (passed (λ n. absurd (n v)) (passed (λ _. omega arith) (passed (λ _. omega arith) refl)))
 
 pub returns-then-in_range : goal.returns-then-in_range
@@ -81,11 +81,11 @@ returns-then-in_range c =
     let n = other (goal.at.returns-then-in_range c).Else-u16_at-eq2 in
     let within = rw (is (goal.at.returns-then-in_range c).After-weight_at) at (c.in_range.ensures.0 c.if-in_range.true)
     in
-    sized (goal.at.returns-then-in_range c).Else-length-gt1000000
+    sized (goal.at.returns-then-in_range c).After-u32_at-length (omega arith)
     (passed (λ _. within) (passed (λ e. absurd (n e)) (passed (λ e. absurd (n e)) refl)))
 
 pub returns : goal.returns
 returns c =
     let beyond = rw (is (goal.at.returns c).After-weight_at) at (c.in_range.ensures.1 c.if-in_range.false) in
-    sized (goal.at.returns c).Else-length-gt1000000 (refused (λ w. beyond
+    sized (goal.at.returns c).After-u32_at-length (omega arith) (refused (λ w. beyond
     (w (other (goal.at.returns c).Else-u16_at-eq2))))

@@ -10,8 +10,7 @@ row_arc place s r =
     record {
       from = u16_at s (12 + 12 * r) + 1;
       to = u16_at s (14 + 12 * r) + 1;
-      number = u32_at s
-          (12 + place + 12 * r);
+      number = u32_at s (12 + place + 12 * r);
     }
 
 -- m rows stand in the bytes s, and in each row a number at `place`

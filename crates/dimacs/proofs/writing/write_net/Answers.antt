@@ -40,10 +40,9 @@ put_text-requires c =
 
 pub put_text-requires-2 : goal.put_text-requires-2
 put_text-requires-2 c =
-    let if2-left = c.if-weights-b.false in
     let text-size2-ensures = c.text_size-b.ensures in
     let pre = c.requires in
-    (omega (arith, if2-left, text-size2-ensures), pre.some, rows_there pre 8 (omega arith))
+    (omega (arith, text-size2-ensures), pre.some, rows_there pre 8 (omega arith))
 
 pub returns : goal.returns
 returns c =

@@ -94,7 +94,7 @@ loop-x-preserved c =
     let loop-inv = c.loop-x.invariant in
     λ u v k n a order r t. rw c.wide-x.ensures.0
     (step_next (loop-inv u v k n a order r t) loop-test-taken _ later2-ensures
-    (omega (arith, c.if-over-z-ne256.false)))
+    (omega arith))
 
 pub returns : goal.returns
 returns c =
