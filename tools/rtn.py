@@ -60,17 +60,17 @@ def nodes_of(table):
     return HEADER.unpack_from(table)[2]
 
 
-def unpack(table):
-    """Bound and rows of a table whose header is good, a mesh's too."""
+def unpack(table, meshes=False):
+    """Bound and rows of a table whose header is good; a mesh's too where these are read."""
     if len(table) < HEADER.size:
         raise Bad(REFUSALS[1])
     mark, version, nodes, reserved, bound = HEADER.unpack_from(table)
-    mesh = version == 3
-    good = {2: mark == b"RTN", 3: version in ROWS, 4: 1 <= nodes <= (MOST_MESH if mesh else MOST_NODES)}
+    mesh = meshes and version == 3
+    good = {2: mark == b"RTN", 3: version in (1, 2) or mesh, 4: 1 <= nodes <= (MOST_MESH if mesh else MOST_NODES)}
     good[5], good[6] = reserved == 0, len(table) % 12 == 0 if mesh else len(table) == 12 * nodes
     for number in good:
         if not good[number]:
-            raise Bad({**REFUSALS, **READ, **(OF_MESH if mesh else {})}[number])
+            raise Bad({**REFUSALS, **(READ if meshes else {}), **(OF_MESH if mesh else {})}[number])
     return bound, list(ROWS[version].iter_unpack(table[HEADER.size:]))
 
 
