@@ -1,9 +1,9 @@
 -- What each node puts at its spot: a step of any of the loops that lay an array out by spot.
 use Prim.Native.Nat.{ℕ, ◌+◌, ◌≤◌, ◌<◌}
-use mathlib.Core.Path.{◌≡◌, sym, ◌∙◌}
+use mathlib.Core.Path.{◌≡◌, sym, ap, ◌∙◌}
 use mathlib.Core.List.{List}
 use native.Mathlib.Omega.{arith}
-use native.Mathlib.Decide.{ℕ_discrete}
+use native.Mathlib.Decide.{ℕ_discrete, dec_lt}
 use lib.ListN.{set, length-set}
 use lib.Seq.{get_or-set_same, get_or-set_other}
 use Rattle.arrays.specs.At.{at}
@@ -30,3 +30,15 @@ laid_more n lo i spot f to s x p l b es ex h =
 
 pub spot_small : (n v s : ℕ) (spot : List ℕ) → Spots n spot → v < n → s ≡ at spot v → s < 4096
 spot_small n v s spot p b e = omega (arith, p.within v b, p.small)
+
+-- what is laid of nodes is nodes
+pub laid_under : {n : ℕ} {spot to : List ℕ} {f : ℕ → ℕ} → Spots n spot → ((v : ℕ) → 1 ≤ v → v < n → f v < n)
+    → Laid 1 n spot f to → (s : ℕ) → s < n → at to s < n
+laid_under {n} {spot} {to} {f} p g h s k = pick (dec_lt (at to s) n)
+  where
+    pick : Dec (at to s < n) → at to s < n
+    pick (yes q) = q
+    pick (no q) =
+        let none : at to s ≡ 0 = h.rest s (omega (arith, k, p.small)) (λ v l b e.
+        q (omega (arith, ap (λ (x : ℕ). at to x) e, h.each v l b, g v l b))) in
+        omega (arith, none, p.some)

@@ -65,6 +65,16 @@ lifts (negsuc n) h =
       },
     )
 
+-- z plus 1,000,000 or somewhat more is a small natural number
+small_sum : (z : ℤ) → InRange z → (k : ℕ) → row_lift ≤ k → k ≤ 2000000
+    → (q : ℕ) × (z +ℤ pos k ≡ pos q) × (q ≤ 3000000)
+small_sum (pos n) h k l m =
+    let b = leb→le n 1000000 h.1.le in
+    (n + k, refl, omega arith)
+small_sum (negsuc n) h k l m =
+    let b = leb→le n 999999 h.0.le in
+    (k - suc n, rw (le-ltb k (suc n) (omega arith)) refl, omega arith)
+
 -- as the code adds and casts it; y is the weight as its bits are read back
 module _ {y z : ℤ} (e : y ≡ z) (w : InRange z) where
   abbrev raised : ℤ
@@ -79,14 +89,22 @@ module _ {y z : ℤ} (e : y ≡ z) (w : InRange z) where
   raised_is : raised ≡ pos q
   raised_is = ap (λ (x : ℤ). x +ℤ pos row_lift) e ∙ (lifts z w).1.sum
 
-  pub lift_fits : SFits w32 raised
-  lift_fits = rw raised_is (record { sfits = omega (arith, (lifts z w).1.small) })
+  sum_is : (k : ℕ) (l : row_lift ≤ k) (m : k ≤ 2000000) → y +ℤ pos k ≡ pos ((small_sum z w k l m).0)
+  sum_is k l m = ap (λ (x : ℤ). x +ℤ pos k) e ∙ (small_sum z w k l m).1
+
+  pub lift_fits : (k : ℕ) → row_lift ≤ k → k ≤ 2000000 → SFits w32 (y +ℤ pos k)
+  lift_fits k l m = rw (sum_is k l m) (record { sfits = omega (arith, (small_sum z w k l m).2) })
 
   read_is : read ≡ pos q
-  read_is = to_z-of_z w32 raised lift_fits ∙ raised_is
+  read_is = to_z-of_z w32 raised (lift_fits row_lift (omega arith) (omega arith)) ∙ raised_is
 
-  pub lift_casts : T (non_neg read) × Fits w32 (nat_abs read)
-  lift_casts = rw read_is (tt, record { fits = omega (arith, (lifts z w).1.small) })
+  sum_read : (k : ℕ) (l : row_lift ≤ k) (m : k ≤ 2000000)
+      → to_z w32 (of_z w32 (y +ℤ pos k)) ≡ pos ((small_sum z w k l m).0)
+  sum_read k l m = to_z-of_z w32 (y +ℤ pos k) (lift_fits k l m) ∙ sum_is k l m
+
+  pub lift_casts : (k : ℕ) → row_lift ≤ k → k ≤ 2000000
+      → T (non_neg (to_z w32 (of_z w32 (y +ℤ pos k)))) × Fits w32 (nat_abs (to_z w32 (of_z w32 (y +ℤ pos k))))
+  lift_casts k l m = rw (sum_read k l m) (tt, record { fits = omega (arith, (small_sum z w k l m).2) })
 
   pub lift_diff : Diff (nat_abs read) row_lift z
   lift_diff = rw read_is (lifts z w).1.diff

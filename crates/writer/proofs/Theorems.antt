@@ -58,7 +58,7 @@ wrote p =
       apart = f.0;
       short = g.0;
       known = h.0;
-      kept = i.0;
+      kept = λ f. search (i.0, j.0, f);
       few = j.0;
       bytes = ap (λ x. x.1) k.1;
     }

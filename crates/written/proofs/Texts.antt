@@ -54,6 +54,10 @@ module _ (top : ℕ) (e : Arc) where
   pub row_length : length (row_text top e) ≡ length (arc_text top e) + length (arc_text top (opposite e))
   row_length = length-append (arc_text top e) (arc_text top (opposite e))
 
+-- and of one size
+pub arc_turned : (top : ℕ) (e : Arc) → length (arc_text top (opposite e)) ≡ length (arc_text top e)
+arc_turned top e = omega (arith, arc_length top e, arc_length top (opposite e))
+
 -- a row's two lines, in digits
 pub row_size : (top : ℕ) (e : Arc)
     → length (row_text top e)

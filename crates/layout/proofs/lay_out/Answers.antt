@@ -1,4 +1,5 @@
 -- `layout::lay_out` meets its contract: each array by spot, from one by node that is not yet overwritten.
+use Rattle.layout.proofs.Laying.{laid_under}
 use Rattle.layout.proofs.lay_out.Goals as goal
 
 pub lay_stops-requires : goal.lay_stops-requires
@@ -12,7 +13,8 @@ lay_spots-requires c =
 pub lay_spots-requires-2 : goal.lay_spots-requires-2
 lay_spots-requires-2 c =
     let pre = c.requires in
-    record { spots = pre.spots; by_index = pre.parents }
+    let laid = laid_under pre.spots (λ v l b. pre.spots.within _ (pre.heads v l b)) c.lay_spots.ensures in
+    record { spots = pre.spots; by_index = λ v l b. search (pre.parents v l b, laid v b) }
 
 pub lay_names-requires : goal.lay_names-requires
 lay_names-requires c = c.requires.spots

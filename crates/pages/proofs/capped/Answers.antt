@@ -44,7 +44,7 @@ lifted c =
 
 pub overflow_add-result : goal.overflow_add-result
 overflow_add-result c =
-    record { fits = lift_fits c.args.ceiling _ c.ranges.ceiling (lifted c) }
+    record { fits = omega (arith, lift_fits c.args.ceiling _ c.ranges.ceiling (lifted c)) }
 
 pub returns-then-ceiling-ge-LEAST : goal.returns-then-ceiling-ge-LEAST
 returns-then-ceiling-ge-LEAST c = capped_after (lifted c)

@@ -32,11 +32,14 @@ pub weight_at-weight-requires : goal.weight_at-weight-requires
 weight_at-weight-requires c = row_stands c
 
 pub overflow_add-result : goal.overflow_add-result
-overflow_add-result c = lift_fits (is (goal.at.overflow_add-result c).After-weight_at-weight) (within c)
+overflow_add-result c =
+    let e = is (goal.at.overflow_add-result c).After-weight_at-weight in
+    lift_fits e (within c) _ (omega arith) (omega arith)
 
 pub overflow_cast-result-then-in_range : goal.overflow_cast-result-then-in_range
-overflow_cast-result-then-in_range c = lift_casts (is (goal.at.overflow_cast-result-then-in_range
-    c).After-weight_at-weight) (within c)
+overflow_cast-result-then-in_range c =
+    let e = is (goal.at.overflow_cast-result-then-in_range c).After-weight_at-weight in
+    lift_casts e (within c) _ (omega arith) (omega arith)
 
 pub returns-then-in_range : goal.returns-then-in_range
 returns-then-in_range c = record {

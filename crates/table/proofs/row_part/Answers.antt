@@ -1,6 +1,6 @@
 -- `table::row_part` meets its contract. Where the row stands, its 12 bytes are the part from 12 + 12 r on, which lies
 -- that far into the table and within it (`row_stands`); else the part is empty and lies where the table does.
-use Prim.Native.Nat.{◌*◌, ◌+◌, ◌-◌}
+use Prim.Native.Nat.{ℕ, ◌*◌, ◌+◌, ◌-◌}
 use mathlib.Core.Path.{◌≡◌, refl}
 use Rattle.table.specs.Row.{Stands}
 use native.Mathlib.Omega.{arith}
@@ -25,9 +25,9 @@ slice_bounds-result-end c = omega (arith, row_stands c)
 pub returns-then-stands : goal.returns-then-stands
 returns-then-stands c =
     let args = c.args in
-    let e : 12 + 12 * args.row + 12 - (12 + 12 * args.row) ≡ 12 = omega arith in
+    let e : (x : ℕ) → x + 12 - x ≡ 12 = λ x. omega arith in
     let h = row_stands (goal.at.returns-then-stands c).Then-stands in
-    record { bytes = λ _. rw e refl; own = λ _. refl; none = λ n. absurd (n h); none_at = λ n. absurd (n h) }
+    record { bytes = λ _. rw (e _) refl; own = λ _. refl; none = λ n. absurd (n h); none_at = λ n. absurd (n h) }
 
 pub returns : goal.returns
 returns c =

@@ -1,10 +1,8 @@
 -- `changes::runs::holds` meets its contract: its three tests are what it is that the run holds a mark.
-use Prim.Native.Nat.{◌≤◌}
 use mathlib.Core.Path.{sym, ◌∙◌}
 use mathlib.Core.Bool.{false≢true}
 use native.Mathlib.Omega.{arith}
 use borrow.Author.Tests.{eqb-true, eqb-false}
-use Rattle.marks.specs.Mark.{top}
 use Rattle.marks.proofs.Readings.{told_spent, told_unspent}
 use Rattle.changes.proofs.runs.holds.Goals as goal
 
@@ -13,8 +11,8 @@ returns-then-mark-eq-FREE c = (λ t. absurd (false≢true t), λ _ h. omega (ari
 
 pub returns-then-is_spent : goal.returns-then-is_spent
 returns-then-is_spent c =
-    let s : top ≤ c.args.mark = told_spent c.is_spent.ensures c.if-is_spent.true in
-    (λ t. absurd (false≢true t), λ _ h. omega (arith, s, h.unspent))
+    let s = told_spent c.is_spent.ensures c.if-is_spent.true in
+    (λ t. absurd (false≢true t), λ _ h. omega (arith, s, h.unspent, h.keeps))
 
 pub returns : goal.returns
 returns c = (

@@ -1,6 +1,9 @@
 -- `put_row` reads a row and puts its arc and then the opposite (proofs/Rows).
 use mathlib.Core.Path.{refl}
 use native.Mathlib.Omega.{arith}
+use Prim.Native.Nat.{◌+◌}
+use Rattle.roads.specs.work.Line.{arc_of}
+use Rattle.written.proofs.Texts.{arc_turned}
 use Rattle.written.proofs.Rows.{row_parts, row_put}
 use Rattle.written.proofs.put.put_row.Goals as goal
 
@@ -27,6 +30,7 @@ put_arc-requires c =
         arith,
         row_parts args.s.now args.r args.place two-ensures.0 two2-ensures.0 four-ensures.0 refl refl
             args.top,
+        arc_turned args.top (arc_of (c.two-from.result + 1) (c.two-to.result + 1) c.four-b.result),
       ),
       four-ensures.1,
     )
