@@ -1,4 +1,4 @@
-// What has been handed over to the system: the two functions that write, and how far they have come.
+// What has been handed over to the writer: the two functions that write, and how far they have come.
 ghost use Rattle.std.specs.Prelude.{◌+◌, ◌≤◌, ◌≡◌, IfOk, OnErr, OnOk, length, take};
 ghost use Rattle.std.specs.Io.KnownBytes.{Appends};
 ghost use Rattle.streams.specs.Front.{HasWritten};

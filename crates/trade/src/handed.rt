@@ -1,4 +1,4 @@
-// What is handed over to the system: the one function that writes, and how much it has handed over.
+// What is handed over to the writer: the one function that writes, and how much it has handed over.
 ghost use Rattle.std.specs.Prelude.{◌++◌, IfOk, OnErr, OnOk};
 ghost use Rattle.trade.specs.Told.{Tells, HandedOver, Writes, WritesFront};
 
