@@ -13,11 +13,10 @@ use Rattle.table.specs.Signed.{InRange}
 use Rattle.table.specs.Header.{Header, Lettered, version_of, nodes_of, bound_of}
 use Rattle.table.specs.Row.{row_at, kind_at, count_at, Stands}
 use Rattle.table.specs.Examine.{RowNumber, RowsTested, Tested}
-use Rattle.table.specs.Opens.{opening_refusal, Opens, Examines}
+use Rattle.table.specs.Opens.{Opening, opening, opening_refusal, Opens, Examines}
 use Rattle.table.specs.declared.Row.{Row}
 use Rattle.table.specs.declared.Refusal.{Refusal}
-use Rattle.table.specs.declared.Opening.{Opening}
-use Rattle.table.specs.declared.Opening.TheVariants.{Opened, Refused}
+use Rattle.std.specs.Prelude.{Ok, Err}
 use Rattle.table.proofs.Weights.{weight_good}
 use Rattle.table.proofs.Refusals.{
   past,
@@ -114,7 +113,7 @@ header_map f refuse s g p =
 
 -- a table whose header and rows are good: 1 to 10, 22 and 23 refuse nothing
 abbrev pub GoodTable : List ℕ → Type 0
-GoodTable s = Examines s (Opened (nodes_of s) (bound_of s))
+GoodTable s = Examines s (opening (nodes_of s) (bound_of s))
 
 abbrev pub GoodRows : List ℕ → Type 0
 GoodRows s = (r : ℕ) → r < nodes_of s - 1 → RowNumber (nodes_of s) s r 0
@@ -166,36 +165,36 @@ by_tested C refuse s h f p =
 
 -- an opened table's two numbers, and that it is no refusal
 abbrev nodes_in : Opening → ℕ
-nodes_in (Opened n b) = n
-nodes_in (Refused w) = 0
+nodes_in (Ok o) = o.nodes
+nodes_in (Err w) = 0
 
 abbrev bound_in : Opening → ℕ
-bound_in (Opened n b) = b
-bound_in (Refused w) = 0
+bound_in (Ok o) = o.bound
+bound_in (Err w) = 0
 
-pub nothing_found : {n b : ℕ} {w : Refusal} → Refused w ≡ Opened n b → ⊥
+pub nothing_found : {n b : ℕ} {w : Refusal} → Err w ≡ opening n b → ⊥
 nothing_found e = omega (arith, ap taken e)
   where
     taken : Opening → ℕ
-    taken (Opened n b) = 1
-    taken (Refused w) = 0
+    taken (Ok o) = 1
+    taken (Err w) = 0
 
-unnumbered : {n b : ℕ} (k r : ℕ) → (k ≡ 0 → ⊥) → Own k → opening_refusal k r ≡ Opened n b → ⊥
+unnumbered : {n b : ℕ} (k r : ℕ) → (k ≡ 0 → ⊥) → Own k → opening_refusal k r ≡ opening n b → ⊥
 unnumbered k r _ _ e = nothing_found e
 
-pub opened : (s : List ℕ) (n b : ℕ) → Opens s (Opened n b)
+pub opened : (s : List ℕ) (n b : ℕ) → Opens s (opening n b)
     → Headed s × (n ≡ nodes_of s) × (b ≡ bound_of s)
 opened s n b p =
     let h = header_past opening_refusal unnumbered p in
     (h.0, ap nodes_in h.1, ap bound_in h.1)
 
 -- a refused opening is a refused examination, and an opened table is examined row by row
-pub refused_stays : (s : List ℕ) (w : Refusal) → Opens s (Refused w)
-    → Examines s (Refused w)
+pub refused_stays : (s : List ℕ) (w : Refusal) → Opens s (Err w)
+    → Examines s (Err w)
 refused_stays s w p = header_map (λ o. o) opening_refusal s (λ h e. absurd (nothing_found e)) p
 
-pub opened_goes : (s : List ℕ) (n b : ℕ) (o : Opening) → Opens s (Opened n b)
-    → RowsTested Opening opening_refusal s n (λ x. x ≡ Opened n b) o → Examines s o
+pub opened_goes : (s : List ℕ) (n b : ℕ) (o : Opening) → Opens s (opening n b)
+    → RowsTested Opening opening_refusal s n (λ x. x ≡ opening n b) o → Examines s o
 opened_goes s n b o p q = let h = opened s n b p in past_header opening_refusal {s = s} h.0 (rw (h.1, h.2) at q)
 
 -- what a row numbered 0 has; and such a row is numbered 0, where its kind and count are good too if it is of version 2
@@ -222,7 +221,7 @@ good_number n s r g k =
     (passed g.apart
     (passed g.long (passed (λ _. g.weight_within) (passed (λ e. (k e).0) (passed (λ e. (k e).1) refl)))))
 
-pub accepted : (s : List ℕ) (n b : ℕ) → Examines s (Opened n b) → Accepted s n b
+pub accepted : (s : List ℕ) (n b : ℕ) → Examines s (opening n b) → Accepted s n b
 accepted s n b p =
     let t = both_good opening_refusal s unnumbered p in
     let e : n ≡ nodes_of s = ap nodes_in t.2 in
@@ -236,7 +235,7 @@ accepted s n b p =
 
 -- how an operation that begins with `examine` goes on where nothing is refused
 pub passed_on : {A : Type 0} (refuse : ℕ → ℕ → A) {rest : A → Type 0} (s : List ℕ) (n b : ℕ) {x : A}
-    → Examines s (Opened n b) → rest x → Tested A refuse s rest x
+    → Examines s (opening n b) → rest x → Tested A refuse s rest x
 passed_on refuse s n b p r =
     let t = both_good opening_refusal s unnumbered p in
     past_header refuse t.0 (fine t.1 r)
@@ -254,12 +253,12 @@ tested_rest refuse s g p =
 
 -- how a function that begins with `open_table` hands a refusal on
 pub refused_header : {A : Type 0} (refuse : ℕ → ℕ → A) {rest : A → Type 0} (s : List ℕ) (w : Refusal)
-    → Opens s (Refused w) → Header A refuse s rest (refuse w.number w.row)
+    → Opens s (Err w) → Header A refuse s rest (refuse w.number w.row)
 refused_header {A} refuse s w p = header_map handed opening_refusal s (λ h e. absurd (nothing_found e)) p
   where
     handed : Opening → A
-    handed (Opened n b) = refuse 0 0
-    handed (Refused v) = refuse v.number v.row
+    handed (Ok o) = refuse 0 0
+    handed (Err v) = refuse v.number v.row
 
 -- all of a list is its part from 0 to its end
 pub take_all : (s : List ℕ) → take (length s - 0) s ≡ s

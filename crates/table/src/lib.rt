@@ -3,11 +3,11 @@
 // any number and asks nothing of its caller.
 #![tactic(auto)]
 
-ghost use Rattle.std.specs.Prelude.{◌≡◌, true, false, ◌+◌, ◌*◌, ◌≤◌, ◌<◌, length};
+ghost use Rattle.std.specs.Prelude.{◌≡◌, Ok, true, false, ◌+◌, ◌*◌, ◌≤◌, ◌<◌, length};
 ghost use Rattle.std.specs.Int.{w32};
 ghost use Rattle.std.proofs.Common.{to_z};
 ghost use Rattle.table.specs.Bytes.{u16_at, u32_at};
-ghost use Rattle.table.specs.Opens.{opening_refusal, Opens, Examines};
+ghost use Rattle.table.specs.Opens.{Opening, opening_refusal, Opens, Examines};
 ghost use Rattle.table.specs.Row.{Stands, PartOf, NextOf, RowOf, weight_at};
 ghost use Rattle.table.specs.Signed.{InRange};
 ghost use Rattle.table.specs.work.Standing.{Standing};
@@ -20,21 +20,24 @@ use crate::scores::score_of;
 mod scores;
 
 // What is refused, by the paper's number, and the row it names: 0 where none is named.
-#[derive(Drop)]
+#[derive(Clone, Copy)]
 pub struct Refusal {
     pub number: u8,
     pub row: usize,
 }
 
-// What opening or examining a table gives: its node count and wire bound, or why not.
-#[derive(Drop)]
-pub enum Opening {
-    Opened { nodes: u16, bound: u32 },
-    Refused(Refusal),
+// A table's node count and wire bound.
+#[derive(Clone, Copy)]
+pub struct Opened {
+    pub nodes: u16,
+    pub bound: u32,
 }
 
+// What opening or examining a table gives.
+pub type Opening = Result<Opened, Refusal>;
+
 // A branch: the two nodes that it joins, its wire length and its weight.
-#[derive(Drop)]
+#[derive(Clone, Copy)]
 pub struct Row {
     pub a: u16,
     pub b: u16,
@@ -75,41 +78,41 @@ pub fn open_table(s: &[u8]) -> Opening
     ensures { Opens s.now result }
 {
     if s.len() < 12 {
-        return Opening::Refused(Refusal { number: 1, row: 0 });
+        return Err(Refusal { number: 1, row: 0 });
     }
     if s[0] != 82 {
-        return Opening::Refused(Refusal { number: 2, row: 0 });
+        return Err(Refusal { number: 2, row: 0 });
     }
     if s[1] != 84 {
-        return Opening::Refused(Refusal { number: 2, row: 0 });
+        return Err(Refusal { number: 2, row: 0 });
     }
     if s[2] != 78 {
-        return Opening::Refused(Refusal { number: 2, row: 0 });
+        return Err(Refusal { number: 2, row: 0 });
     }
     let version = u16_at(s, 3);
     if version < 1 {
-        return Opening::Refused(Refusal { number: 3, row: 0 });
+        return Err(Refusal { number: 3, row: 0 });
     }
     if 2 < version {
-        return Opening::Refused(Refusal { number: 3, row: 0 });
+        return Err(Refusal { number: 3, row: 0 });
     }
     let nodes = u16_at(s, 5);
     if nodes < 1 {
-        return Opening::Refused(Refusal { number: 4, row: 0 });
+        return Err(Refusal { number: 4, row: 0 });
     }
     if 4096 < nodes {
-        return Opening::Refused(Refusal { number: 4, row: 0 });
+        return Err(Refusal { number: 4, row: 0 });
     }
     if s[7] != 0 {
-        return Opening::Refused(Refusal { number: 5, row: 0 });
+        return Err(Refusal { number: 5, row: 0 });
     }
     if s.len() != 12 * (nodes as usize) {
-        return Opening::Refused(Refusal { number: 6, row: 0 });
+        return Err(Refusal { number: 6, row: 0 });
     }
-    Opening::Opened {
+    Ok(Opened {
         nodes,
         bound: u32_at(s, 8),
-    }
+    })
 }
 
 // Whether 12 bytes stand from place 12 + 12 * row on. That place is never computed where it would not fit.
@@ -277,42 +280,34 @@ fn row_number(s: &[u8], r: usize, nodes: u16) -> u8
 }
 
 // Every row in order, after a good header.
-fn rows(s: &[u8], nodes: u16, bound: u32) -> Opening
-    requires { (1 ≤ nodes) × (12 * nodes ≤ length s.now) }
-    ensures { RowsTested Opening opening_refusal s.now nodes
-        (λ x. x ≡ Opening.Opened nodes bound) result }
+fn rows(s: &[u8], table: Opened) -> Opening
+    requires { (1 ≤ table.nodes) × (12 * table.nodes ≤ length s.now) }
+    ensures { RowsTested Opening opening_refusal s.now table.nodes (λ x. x ≡ Ok table) result }
 {
-    let n = nodes as usize;
-    let mut r: usize = 0;
-    while r + 1 < n {
-        let k = row_number(s, r, nodes);
+    for r in 0..usize::from(table.nodes) - 1 {
+        let k = row_number(s, r, table.nodes);
         if k != 0 {
-            return Opening::Refused(Refusal { number: k, row: r });
+            return Err(Refusal { number: k, row: r });
         }
-        r += 1;
     }
-    Opening::Opened { nodes, bound }
+    Ok(table)
 }
 
 // Tests 1 to 10, 22 and 23: the header, then row by row.
 pub fn examine(s: &[u8]) -> Opening
     ensures { Examines s.now result }
 {
-    let o = open_table(s);
-    match o {
-        Opening::Refused(why) => Opening::Refused(why),
-        Opening::Opened { nodes, bound } => rows(s, nodes, bound),
-    }
+    let table = open_table(s)?;
+    rows(s, table)
 }
 
 // What a reader of s holds: all of s, or an empty part where its header is refused.
 pub fn held(s: &[u8]) -> &[u8]
     ensures { HeldOf s.now s.entry.ref_ptr result.now result.ref_ptr }
 {
-    let o = open_table(s);
-    match o {
-        Opening::Refused(_) => &s[0..0],
-        Opening::Opened { nodes: _, bound: _ } => &s[0..],
+    match open_table(s) {
+        Ok(_) => s,
+        Err(_) => &s[0..0],
     }
 }
 

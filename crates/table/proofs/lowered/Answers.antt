@@ -4,7 +4,6 @@ use mir.ValLaws.{to_z_pos}
 use Rattle.table.specs.work.Diff.{up, down}
 use Rattle.table.proofs.Bits.{minus_fits, minus_is}
 use Prim.Native.Nat.{◌-◌}
-use mathlib.Core.Path.{refl}
 use native.Mathlib.Omega.{arith}
 use Rattle.table.proofs.lowered.Goals as goal
 

@@ -1,6 +1,6 @@
 -- `table::row_part` meets its contract. Where the row stands, its 12 bytes are the part from 12 + 12 r on, which lies
 -- that far into the table and within it (`row_stands`); else the part is empty and lies where the table does.
-use Prim.Native.Nat.{ℕ, ◌*◌, ◌+◌, ◌-◌}
+use Prim.Native.Nat.{ℕ, ◌+◌, ◌-◌}
 use mathlib.Core.Path.{◌≡◌, refl}
 use Rattle.table.specs.Row.{Stands}
 use native.Mathlib.Omega.{arith}

@@ -1,11 +1,8 @@
 -- `table::rows` meets its contract. The loop's invariant: every row below r has the number 0. A row with another number
 -- is the first such.
 use Rattle.table.specs.Examine.{RowNumber}
-use Prim.Native.Nat.{ℕ, ◌+◌, ◌-◌, ◌≤◌, ◌<◌}
+use Prim.Native.Nat.{ℕ, ◌<◌}
 use Rattle.table.proofs.rows.Given as goal
 
 abbrev pub invariant-loop-r : goal.invariant-loop-r
-invariant-loop-r l = (l.r + 1 ≤ l.nodes) × ((i : ℕ) → i < l.r → RowNumber l.nodes l.s i 0)
-
-abbrev pub decreases-loop-r : goal.decreases-loop-r
-decreases-loop-r l = l.nodes - l.r
+invariant-loop-r l = (i : ℕ) → i < l.r → RowNumber l.table.nodes l.s i 0
