@@ -8,6 +8,8 @@ ghost use Rattle.marks.specs.Mark.{top, run_of, spend};
 ghost use Rattle.marks.specs.work.Lifted.{LiftedUnder};
 ghost use Rattle.marks.specs.work.Measured.{one_free, Measured};
 
+use reach::Walk;
+
 pub const FREE: u16 = 0;
 
 // The run that stands for "unknown"; every run's own number is below it.
@@ -38,37 +40,23 @@ pub fn lifted_under(s: &[u8], marks: &[u16], row: usize) -> u32
     ensures { LiftedUnder s.now marks.now row result }
 {
     let own = table::lifted_at(s, row);
-    if row < marks.len() {
-        if marks[row] != FREE {
-            return lesser(own, table::ROW_LIFT);
-        }
+    if row < marks.len() && marks[row] != FREE {
+        return own.min(table::ROW_LIFT);
     }
     own
-}
-
-fn lesser(x: u32, y: u32) -> u32
-    ensures { result ≡ min x y }
-{
-    if x < y {
-        return x;
-    }
-    y
 }
 
 fn one_free(mark: u16) -> u16
     ensures { result ≡ one_free mark }
 {
-    if mark == FREE {
-        return 1;
-    }
-    0
+    if mark == FREE { 1 } else { 0 }
 }
 
 // What a row's weight is lifted by, as sums of weights are carried.
 const ROW_LIFT: u64 = table::ROW_LIFT as u64;
 
 // A climb's wire length, its weight under the marks, lifted by 2^33, and how many of its branches are free.
-#[derive(Drop)]
+#[derive(Clone, Copy)]
 pub struct Climb {
     pub length: u64,
     pub weight: u64,
@@ -76,18 +64,10 @@ pub struct Climb {
 }
 
 // Between crates: the climb from x to t, which is above x.
-pub fn measure_climb(
-    s: &[u8],
-    marks: &[u16],
-    parent: &[u16; 4096],
-    half: &[u16; 4096],
-    place: &[u16; 4096],
-    x: usize,
-    t: usize,
-) -> Climb
-    requires { (k : WalkClimb (length marks.now) parent.now half.now place.now x t)
+pub fn measure_climb(s: &[u8], marks: &[u16], walk: &Walk, x: usize, t: usize) -> Climb
+    requires { (k : WalkClimb (length marks.now) walk.now.parent walk.now.half walk.now.place x t)
         × Net s.now k.nodes }
-    ensures { Measured s.now marks.now parent.now half.now x t
+    ensures { Measured s.now marks.now walk.now.parent walk.now.half x t
         result.length result.weight result.free }
 {
     let mut v = x;
@@ -95,13 +75,11 @@ pub fn measure_climb(
     let mut weight: u64 = table::SUM_LIFT;
     let mut free: u16 = 0;
     while v != t {
-        let r = arrays::wide(half[v]) / 2;
-        let q = table::row_at(s, r);
-        let l = q.length;
-        length += arrays::long(l);
-        weight = weight + arrays::long(lifted_under(s, marks, r)) - ROW_LIFT;
+        let r = usize::from(walk.half[v]) / 2;
+        length += u64::from(table::row_at(s, r).length);
+        weight = weight + u64::from(lifted_under(s, marks, r)) - ROW_LIFT;
         free += one_free(marks[r]);
-        v = arrays::wide(parent[v]);
+        v = usize::from(walk.parent[v]);
     }
     Climb {
         length,

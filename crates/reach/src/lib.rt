@@ -15,6 +15,28 @@ ghost use Rattle.reach.specs.work.Placing.{Once, Placed, Places};
 
 use net::{first_end, second_end};
 
+// The walk: for each node its parent, the half-branch by which it was reached and its place in the order; for each
+// place the node.
+#[derive(Drop)]
+pub struct Walk {
+    pub parent: [u16; 4096],
+    pub half: [u16; 4096],
+    pub order: [u16; 4096],
+    pub place: [u16; 4096],
+}
+
+impl Walk {
+    // Arrays to walk in.
+    pub fn new() -> Walk {
+        Walk {
+            parent: [0; 4096],
+            half: [0; 4096],
+            order: [0; 4096],
+            place: [0; 4096],
+        }
+    }
+}
+
 // The node that half-branch h leaves.
 fn leaves(s: &[u8], h: usize) -> usize
     requires { Stands s.now (h / 2) }
@@ -47,12 +69,10 @@ fn chains(s: &[u8], rows: usize, first: &mut [u16; 4096], next: &mut [u16; 8192]
     arrays::fill(first, 0);
     arrays::fill_wide(next, 0);
     let end = 2 * rows;
-    let mut h: usize = 0;
-    while h < end {
+    for h in 0..end {
         let v = leaves(s, h);
         next[h] = first[v];
         first[v] = (h + 1) as u16;
-        h += 1;
     }
 }
 
@@ -128,33 +148,32 @@ fn places(order: &[u16; 4096], n: usize, place: &mut [u16; 4096])
     ensures { Places n order.now place.new }
 {
     arrays::fill(place, 0);
-    let mut i: usize = 0;
-    while i < n {
+    for i in 0..n {
         let x = arrays::wide(order[i]);
         place[x] = i as u16;
-        i += 1;
     }
 }
 
 // Between crates: the chains, the walk over them, and the places. The answer, how many nodes were reached, is there for
 // the promise.
-pub fn walk_from(
-    s: &[u8],
-    rows: usize,
-    start: usize,
-    parent: &mut [u16; 4096],
-    half: &mut [u16; 4096],
-    order: &mut [u16; 4096],
-    place: &mut [u16; 4096],
-) -> usize
+pub fn walk_from(s: &[u8], rows: usize, start: usize, walk: &mut Walk) -> usize
     requires { (start < 4096) × Readable s.now rows }
     ensures { WalkedFrom start (first_end s.now) (second_end s.now) rows result
-        parent.new half.new order.new place.new }
+        walk.new.parent walk.new.half walk.new.order walk.new.place }
 {
     let mut next: [u16; 8192] = [0; 8192];
     // Until the walk is over the array of places has where each node's chain begins.
-    chains(s, rows, place, &mut next);
-    let n = reach(s, rows, start, place, &next, parent, half, order);
-    places(order, n, place);
+    chains(s, rows, &mut walk.place, &mut next);
+    let n = reach(
+        s,
+        rows,
+        start,
+        &walk.place,
+        &next,
+        &mut walk.parent,
+        &mut walk.half,
+        &mut walk.order,
+    );
+    places(&walk.order, n, &mut walk.place);
     n
 }

@@ -13,11 +13,8 @@ use net::{first_end, second_end};
 fn number(up: &mut [u16; 4096])
     ensures { Numbered 4096 up.new }
 {
-    arrays::fill(up, 0);
-    let mut i: usize = 0;
-    while i < 4096 {
+    for i in 0..4096 {
         up[i] = i as u16;
-        i += 1;
     }
 }
 
@@ -28,7 +25,7 @@ fn find(up: &[u16; 4096], rank: &[u16; 4096], x: usize) -> usize
 {
     let mut t = x;
     loop {
-        let p = arrays::wide(up[t]);
+        let p = usize::from(up[t]);
         if p == t {
             return t;
         }
@@ -61,15 +58,13 @@ pub fn first_ring(s: &[u8], rows: usize, up: &mut [u16; 4096], rank: &mut [u16; 
 {
     number(up);
     arrays::fill(rank, 0);
-    let mut r: usize = 0;
-    while r < rows {
+    for r in 0..rows {
         let p = find(up, rank, first_end(s, r));
         let q = find(up, rank, second_end(s, r));
         if p == q {
             return r;
         }
         link(up, rank, p, q);
-        r += 1;
     }
-    r
+    rows
 }

@@ -259,11 +259,3 @@ refused_header {A} refuse s w p = header_map handed opening_refusal s (λ h e. a
     handed : Opening → A
     handed (Ok o) = refuse 0 0
     handed (Err v) = refuse v.number v.row
-
--- all of a list is its part from 0 to its end
-pub take_all : (s : List ℕ) → take (length s - 0) s ≡ s
-take_all s = rw sub-zero (all s)
-  where
-    all : (s : List ℕ) → take (length s) s ≡ s
-    all [] = refl
-    all (x ∷ xs) = ap (λ (l : List ℕ). x ∷ l) (all xs)

@@ -9,10 +9,8 @@ use mathlib.Core.List.{List}
 use native.Mathlib.Omega.{arith}
 use Rattle.table.specs.Refuse.{bad, fine, Only}
 use Rattle.table.specs.Header.{nodes_of, bound_of}
-use Rattle.table.specs.Opens.{opening_refusal, Examines}
+use Rattle.table.specs.Opens.{opening_refusal, Examines, Opening, opening}
 use Rattle.table.specs.declared.Refusal as why
-use Rattle.table.specs.declared.Opening.{Opening}
-use Rattle.table.specs.declared.Opening.TheVariants as opening
 use Rattle.table.proofs.Refusals.{past_rows, first_bad_map, by_rows}
 use Rattle.table.proofs.Accepted.{
   Headed,
@@ -31,35 +29,34 @@ use Rattle.net.specs.work.Forest.{Forest}
 use Rattle.net.specs.Net.{first_end, second_end, length_of, weight_of, Whole}
 use Rattle.net.specs.work.Net.{Net}
 use Rattle.net.specs.Ring.{RingRows}
-use Rattle.tree.specs.Accept.{Rings, Begins, acceptance_refusal, Accepts}
+use Rattle.tree.specs.Accept.{Rings, Begins, acceptance_refusal, Accepts, Acceptance, acceptance}
 use Rattle.net.specs.work.Rows.{Readable, Fitting, Closing}
 use Rattle.ring.specs.work.Union.{FirstRing}
 use Rattle.tree.specs.work.Why.{why_of}
 use Rattle.tree.specs.declared.Refusal.{Refusal}
-use Rattle.tree.specs.declared.Acceptance.{Acceptance}
-use Rattle.tree.specs.declared.Acceptance.TheVariants.{Accepted, Refused}
+use Rattle.std.specs.Prelude.{Ok, Err}
 use Rattle.net.proofs.Rows.{fit_less}
 use Rattle.net.proofs.RingRows.{row_open, rows_open, open_rows, rings_both, rings_settled, most_rows}
 use Rattle.tree.proofs.Groups.{all_joined}
 
 -- an accepted net's two numbers, and that it is no refusal
 abbrev nodes_in : Acceptance → ℕ
-nodes_in (Accepted n b) = n
-nodes_in (Refused w) = 0
+nodes_in (Ok net) = net.nodes
+nodes_in (Err w) = 0
 
 abbrev bound_in : Acceptance → ℕ
-bound_in (Accepted n b) = b
-bound_in (Refused w) = 0
+bound_in (Ok net) = net.bound
+bound_in (Err w) = 0
 
-pub nothing_found : {n b : ℕ} {w : Refusal} → Refused w ≡ Accepted n b → ⊥
+pub nothing_found : {n b : ℕ} {w : Refusal} → Err w ≡ acceptance n b → ⊥
 nothing_found e = omega (arith, ap taken e)
   where
     taken : Acceptance → ℕ
-    taken (Accepted n b) = 1
-    taken (Refused w) = 0
+    taken (Ok net) = 1
+    taken (Err w) = 0
 
 -- The code's side
-pub fitting : (s : List ℕ) (n b : ℕ) → Examines s (opening.Opened n b) → Fitting s n
+pub fitting : (s : List ℕ) (n b : ℕ) → Examines s (opening n b) → Fitting s n
 unfolding first_end second_end
 fitting s n b p =
     let a = accepted s n b p in
@@ -104,16 +101,16 @@ module _ (s : List ℕ) (n : ℕ) {rest : Acceptance → Type 0} where
   rings_none r f l p = fine (λ i h. open_rows (first_end s) (second_end s) f.forest i (omega arith)) p
 
 -- a table's own refusal stays one, and an examined table goes on to 11
-pub refused_stays : (s : List ℕ) (w : why.Refusal) → Examines s (opening.Refused w)
+pub refused_stays : (s : List ℕ) (w : why.Refusal) → Examines s (Err w)
     → Accepts s (acceptance_refusal w.number w.row 0)
 refused_stays s w p = tested_map handed opening_refusal s (λ g e. absurd (table.nothing_found e)) p
   where
     handed : Opening → Acceptance
-    handed (opening.Opened n b) = acceptance_refusal 0 0 0
-    handed (opening.Refused v) = acceptance_refusal v.number v.row 0
+    handed (Ok net) = acceptance_refusal 0 0 0
+    handed (Err v) = acceptance_refusal v.number v.row 0
 
-pub examined_goes : (s : List ℕ) (n b : ℕ) (o : Acceptance) → Examines s (opening.Opened n b)
-    → Rings Acceptance acceptance_refusal s n (λ x. x ≡ Accepted n b) o → Accepts s o
+pub examined_goes : (s : List ℕ) (n b : ℕ) (o : Acceptance) → Examines s (opening n b)
+    → Rings Acceptance acceptance_refusal s n (λ x. x ≡ acceptance n b) o → Accepts s o
 examined_goes s n b o p q =
     let a = accepted s n b p in
     table.passed_on (λ k r. acceptance_refusal k r 0) s n b p (rw (a.nodes, a.bound) at q)
@@ -195,12 +192,12 @@ begins_map f refuse s g p =
     p
 
 -- What an accepted table has
-accept_sound : (s : List ℕ) (n b : ℕ) → Accepts s (Accepted n b)
-    → Sound s × (Accepted n b ≡ Accepted (nodes_of s) (bound_of s))
+accept_sound : (s : List ℕ) (n b : ℕ) → Accepts s (acceptance n b)
+    → Sound s × (acceptance n b ≡ acceptance (nodes_of s) (bound_of s))
 accept_sound s n b p =
     begins_sound acceptance_refusal s (λ k r g _. nothing_found) p
 
-pub accepted_headed : (s : List ℕ) {n b : ℕ} → Accepts s (Accepted n b) → Headed s
+pub accepted_headed : (s : List ℕ) {n b : ℕ} → Accepts s (acceptance n b) → Headed s
 accepted_headed s p = (header_past (λ k r. acceptance_refusal k r 0) {s = s} (λ k r n o. nothing_found) p).0
 
 pub record Admitted (s : List ℕ) (n b : ℕ) : Type 0 where
@@ -208,7 +205,7 @@ pub record Admitted (s : List ℕ) (n b : ℕ) : Type 0 where
   pub nodes : n ≡ nodes_of s
   pub bound : b ≡ bound_of s
 
-pub admitted : (s : List ℕ) (n b : ℕ) → Accepts s (Accepted n b) → Admitted s n b
+pub admitted : (s : List ℕ) (n b : ℕ) → Accepts s (acceptance n b) → Admitted s n b
 admitted s n b p =
     let t = accept_sound s n b p in
     let e : n ≡ nodes_of s = ap nodes_in t.1 in
@@ -216,21 +213,21 @@ admitted s n b p =
 
 -- How an operation that begins with `accept` hands a refusal on, and goes on where there is none
 module _ {A : Type 0} (refuse : ℕ → ℕ → ℕ → A) {rest : A → Type 0} (s : List ℕ) where
-  pub refused_on : (w : Refusal) → Accepts s (Refused w)
+  pub refused_on : (w : Refusal) → Accepts s (Err w)
       → Begins A refuse s rest (refuse w.number w.row w.ring)
   refused_on w p = begins_map handed acceptance_refusal s (λ n e. absurd (nothing_found e)) p
     where
       handed : Acceptance → A
-      handed (Accepted n b) = refuse 0 0 0
-      handed (Refused v) = refuse v.number v.row v.ring
+      handed (Ok net) = refuse 0 0 0
+      handed (Err v) = refuse v.number v.row v.ring
 
-  pub passed_on : (n b : ℕ) {x : A} → Accepts s (Accepted n b) → rest x
+  pub passed_on : (n b : ℕ) {x : A} → Accepts s (acceptance n b) → rest x
       → Begins A refuse s rest x
   passed_on n b p r = sound_on refuse s (accept_sound s n b p).0 r
 
 -- an accepted table's outcome is as the rest says
 pub begins_rest : {A : Type 0} (refuse : ℕ → ℕ → ℕ → A) (s : List ℕ) {rest : A → Type 0} {x : A}
-    → Accepts s (Accepted (nodes_of s) (bound_of s)) → Begins A refuse s rest x → rest x
+    → Accepts s (acceptance (nodes_of s) (bound_of s)) → Begins A refuse s rest x → rest x
 begins_rest refuse s p = sound_rest refuse s (accept_sound s (nodes_of s) (bound_of s) p).0
 
 -- Two promises that begin alike give related outcomes, where each refusal is related to itself and their rests are, of
@@ -303,7 +300,7 @@ pub record Closer (s : List ℕ) (r g : ℕ) : Type 0 where
 
 module _ (s : List ℕ) where
   eleven : (x : Acceptance) → (why_of x).number ≡ 11 → GoodTable s
-      → Rings Acceptance acceptance_refusal s (nodes_of s) (λ x. x ≡ Accepted (nodes_of s) (bound_of s)) x
+      → Rings Acceptance acceptance_refusal s (nodes_of s) (λ x. x ≡ acceptance (nodes_of s) (bound_of s)) x
       → Closer s (why_of x).row (why_of x).ring
   eleven x e t (bad r k l before is not) =
       record { good = t; below = l; before = rows_open (first_end s) (second_end s) before; number = is; some = not }

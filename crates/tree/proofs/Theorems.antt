@@ -14,10 +14,9 @@ use Rattle.net.specs.Graph.{First, Ends, Walk, Ring}
 use Rattle.net.specs.Path.{Path}
 use Rattle.net.specs.Net.{first_end, second_end, Whole}
 use Rattle.net.specs.work.Net.{Net}
-use Rattle.tree.specs.Accept.{acceptance_refusal, Begins, Accepts}
+use Rattle.tree.specs.Accept.{acceptance_refusal, Begins, Accepts, Acceptance}
 use Rattle.tree.specs.Groups.{Groups}
 use Rattle.tree.specs.work.Why.{why_of}
-use Rattle.tree.specs.declared.Acceptance.{Acceptance}
 use Rattle.net.specs.work.Rooted.{Above}
 use Rattle.reach.specs.work.Walked.{Walked}
 use Rattle.net.proofs.RingExactly.{forest_iff}

@@ -15,10 +15,9 @@ use Rattle.net.specs.Net.{first_end, second_end, Whole}
 use Rattle.net.specs.work.Forest.{Forest}
 use Rattle.net.proofs.Rows.{fit_less}
 use Rattle.net.proofs.RingExactly.{forest_iff}
-use Rattle.tree.specs.Accept.{Begins, acceptance_refusal, Accepts}
+use Rattle.tree.specs.Accept.{Begins, acceptance_refusal, Accepts, Acceptance}
 use Rattle.tree.specs.Groups.{Groups}
 use Rattle.tree.specs.work.Why.{why_of}
-use Rattle.tree.specs.declared.Acceptance.{Acceptance}
 use Rattle.tree.proofs.Begins.{fitting, sound_joined, begins_other, begins_map}
 use Rattle.tree.proofs.Eleven.{ends_differ}
 use Rattle.tree.proofs.Groups as groups

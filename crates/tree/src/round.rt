@@ -4,26 +4,19 @@ ghost use Rattle.net.specs.Ring.{RingRows};
 ghost use Rattle.net.specs.work.Rows.{Closing};
 
 use net::{first_end, second_end};
-use reach::walk_from;
+use reach::{Walk, walk_from};
 
 // The walk over the rows before r, from its first end; then the climb from its second end to where the order begins.
 // Row r itself is one.
-pub(crate) fn count_round(
-    s: &[u8],
-    r: usize,
-    parent: &mut [u16; 4096],
-    half: &mut [u16; 4096],
-    order: &mut [u16; 4096],
-    place: &mut [u16; 4096],
-) -> usize
+pub(crate) fn count_round(s: &[u8], r: usize, walk: &mut Walk) -> usize
     requires { Closing s.now r }
     ensures { RingRows (first_end s.now) (second_end s.now) r result }
 {
-    walk_from(s, r, first_end(s, r), parent, half, order, place);
+    walk_from(s, r, first_end(s, r), walk);
     let mut x = second_end(s, r);
     let mut g: usize = 1;
-    while place[x] > 0 {
-        x = arrays::wide(parent[x]);
+    while walk.place[x] > 0 {
+        x = usize::from(walk.parent[x]);
         g += 1;
     }
     g

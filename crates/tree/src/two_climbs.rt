@@ -11,9 +11,9 @@ pub fn meet(parent: &[u16; 4096], place: &[u16; 4096], n: usize, x: usize, y: us
     let mut b = y;
     while a != b {
         if place[a] < place[b] {
-            b = arrays::wide(parent[b]);
+            b = usize::from(parent[b]);
         } else {
-            a = arrays::wide(parent[a]);
+            a = usize::from(parent[a]);
         }
     }
     a

@@ -13,21 +13,21 @@ node_in c = along_fits c.loop-v.invariant.along c.loop-v-test.true
 pub loop-v-init : goal.loop-v-init
 loop-v-init c = measuring_start c.args.s.now c.requires.0
 
-pub offset_bounds-half-v : goal.offset_bounds-half-v
-offset_bounds-half-v c = omega (arith, node_in c)
+pub offset_bounds-walk-v : goal.offset_bounds-walk-v
+offset_bounds-walk-v c = omega (arith, node_in c)
 
-pub bounds-half-v : goal.bounds-half-v
-bounds-half-v c = omega (arith, node_in (goal.at.bounds-half-v c).In-loop-v)
+pub bounds-walk-v : goal.bounds-walk-v
+bounds-walk-v c = omega (arith, node_in (goal.at.bounds-walk-v c).In-loop-v)
 
 pub overflow_add-length : goal.overflow_add-length
 overflow_add-length c =
     let loop-inv = c.loop-v.invariant in
-    omega (arith, c.long-length.ensures.1, loop-inv.most, loop-inv.along.short)
+    omega (arith, loop-inv.most, loop-inv.along.short)
 
 pub overflow_add-weight : goal.overflow_add-weight
 overflow_add-weight c =
     let loop-inv = c.loop-v.invariant in
-    omega (arith, c.long.ensures.1, loop-inv.high, loop-inv.along.short)
+    omega (arith, loop-inv.high, loop-inv.along.short)
 
 pub overflow_sub-weight : goal.overflow_sub-weight
 overflow_sub-weight c =
@@ -38,19 +38,19 @@ pub offset_bounds-marks-r : goal.offset_bounds-marks-r
 offset_bounds-marks-r c =
     let loop-test-taken = c.loop-v-test.true in
     let loop-inv = c.loop-v.invariant in
-    let e = c.wide-r.ensures.0 in
+    let e = c.from-r.ensures in
     omega (arith, along_row loop-inv.along loop-test-taken)
 
 pub bounds-marks-r : goal.bounds-marks-r
 bounds-marks-r c =
     let loop-test-taken = c.loop-v-test.true in
     let loop-inv = c.loop-v.invariant in
-    let e = c.wide-r.ensures.0 in
+    let e = c.from-r.ensures in
     omega (arith, along_row loop-inv.along loop-test-taken)
 
 pub overflow_add-free : goal.overflow_add-free
 overflow_add-free c =
-    let wide-result = c.wide-r.result in
+    let wide-result = c.from-r.result in
     let loop-inv = c.loop-v.invariant in
     let args = c.args in
     omega (
@@ -61,33 +61,31 @@ overflow_add-free c =
       one_most (at args.marks.now (wide-result / 2)),
     )
 
-pub offset_bounds-parent-v : goal.offset_bounds-parent-v
-offset_bounds-parent-v c = omega (arith, node_in (goal.at.offset_bounds-parent-v c).In-loop-v)
+pub offset_bounds-walk-v-in-loop-v : goal.offset_bounds-walk-v-in-loop-v
+offset_bounds-walk-v-in-loop-v c = omega (arith, node_in (goal.at.offset_bounds-walk-v-in-loop-v c).In-loop-v)
 
-pub bounds-parent-v : goal.bounds-parent-v
-bounds-parent-v c = omega (arith, node_in (goal.at.bounds-parent-v c).In-loop-v)
+pub bounds-walk-v-in-loop-v : goal.bounds-walk-v-in-loop-v
+bounds-walk-v-in-loop-v c = omega (arith, node_in (goal.at.bounds-walk-v-in-loop-v c).In-loop-v)
 
 pub loop-v-smaller : goal.loop-v-smaller
 loop-v-smaller c =
     let loop-test-taken = c.loop-v-test.true in
     let loop-inv = c.loop-v.invariant in
     let args = c.args in
-    omega (arith, along_less loop-inv.along loop-test-taken, ap (at args.place.now) c.wide-v.ensures.0)
+    omega (arith, along_less loop-inv.along loop-test-taken, ap (at args.walk.now.place) c.from-v.ensures)
 
 pub loop-v-preserved : goal.loop-v-preserved
 loop-v-preserved c =
-    let long2-ensures = c.long.ensures in
     let lifted-under-ensures = c.lifted_under.ensures in
-    let long-ensures = c.long-length.ensures in
-    let row-at-ensures = c.row_at-q.ensures in
-    let wide-ensures = c.wide-r.ensures in
+    let row-at-ensures = c.row_at.ensures in
+    let wide-ensures = c.from-r.ensures in
     let loop-test-taken = c.loop-v-test.true in
     let loop-inv = c.loop-v.invariant in
     let args = c.args in
     let pre = c.requires in
     measuring_step args.s.now pre.1 pre.0.many loop-inv loop-test-taken
-    (ap (λ (z : ℕ). z / 2) wide-ensures.0) row-at-ensures long-ensures.0 lifted-under-ensures long2-ensures.0
-    c.one_free-free.ensures c.wide-v.ensures.0
+    (ap (λ (z : ℕ). z / 2) wide-ensures) row-at-ensures c.from-length.ensures lifted-under-ensures c.from.ensures
+    c.one_free-free.ensures c.from-v.ensures
 
 pub returns : goal.returns
 returns c =

@@ -1,6 +1,12 @@
+use mathlib.Core.Path.{◌≡◌}
 use native.Mathlib.Omega.{arith}
 use Rattle.ring.proofs.Union.{seen_none, seen_more, seen_ring, rises_more}
+use Rattle.ring.proofs.first_ring.Goals.{After-loop-r}
 use Rattle.ring.proofs.first_ring.Goals as goal
+
+-- at the end all rows have been seen
+e : (c : After-loop-r) → c.loop-r.r ≡ c.args.rows
+e c = omega arith
 
 pub loop-r-init : goal.loop-r-init
 loop-r-init c =
@@ -76,4 +82,4 @@ loop-r-preserved c =
 pub returns : goal.returns
 returns c =
     let h = c.loop-r.invariant in
-    record { within = h.0.within; forest = h.0.forest; closes = λ b. absurd (omega (arith, c.loop-r-test.false)) }
+    record { within = omega arith; forest = rw (e c) at h.0.forest; closes = λ b. absurd (omega arith) }

@@ -1,21 +1,15 @@
 -- `accept_in` meets its contract: a table's own refusal is handed on, and an examined table goes on to 11.
+use Rattle.std.proofs.lemmas.Result.{err_from_is_err_and}
 use Rattle.tree.proofs.Begins.{fitting, refused_stays, examined_goes}
 use Rattle.tree.proofs.accept_in.Goals as goal
 
 pub rings-requires : goal.rings-requires
-rings-requires c =
-    let examine-ensures = c.examine-o.ensures in
-    let args = c.args in
-    fitting args.s.now _ _ (rw c.in-Opened.is at examine-ensures)
+rings-requires c = fitting c.args.s.now _ _ c.in_ok-net.ensures
 
-pub returns-in-Refused : goal.returns-in-Refused
-returns-in-Refused c =
-    let examine-ensures = c.examine-o.ensures in
-    let args = c.args in
-    refused_stays args.s.now _ (rw c.in-Refused.is at examine-ensures)
+pub returns-in_err-net : goal.returns-in_err-net
+returns-in_err-net c =
+    let p = err_from_is_err_and c.from_residual.result c.from_residual.ensures.1 in
+    rw (p.1, p.2) (refused_stays c.args.s.now _ c.in_err-net.ensures)
 
-pub returns-in-Opened : goal.returns-in-Opened
-returns-in-Opened c =
-    let examine-ensures = c.examine-o.ensures in
-    let args = c.args in
-    examined_goes args.s.now _ _ _ (rw c.in-Opened.is at examine-ensures) c.rings.ensures
+pub returns : goal.returns
+returns c = examined_goes c.args.s.now _ _ _ c.in_ok-net.ensures c.rings.ensures

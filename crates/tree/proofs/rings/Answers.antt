@@ -5,24 +5,24 @@ use native.Mathlib.Omega.{arith}
 use Rattle.tree.proofs.Begins.{fitting_readable, found_closing, rings_bad, rings_none}
 use Rattle.tree.proofs.rings.Goals as goal
 
-pub first_ring-r-requires : goal.first_ring-r-requires
-first_ring-r-requires c =
+pub first_ring-row-requires : goal.first_ring-row-requires
+first_ring-row-requires c =
     let pre = c.requires in
-    rw c.wide-rows.ensures.0 (fitting_readable pre)
+    rw c.from-rows.ensures (fitting_readable pre)
 
-pub count_round-g-requires : goal.count_round-g-requires
-count_round-g-requires c =
+pub count_round-requires : goal.count_round-requires
+count_round-requires c =
     let pre = c.requires in
-    let e = c.wide-rows.ensures.0 in
-    found_closing pre (rw e at c.first_ring-r.ensures) (omega (arith, e))
+    let e = c.from-rows.ensures in
+    found_closing pre (rw e at c.first_ring-row.ensures) (omega (arith, e))
 
-pub returns-then-r-rows : goal.returns-then-r-rows
-returns-then-r-rows c =
-    let first-ring-ensures = c.first_ring-r.ensures in
-    let e = c.wide-rows.ensures.0 in
-    rings_bad _ _ _ _ (rw e at first-ring-ensures) (omega (arith, e)) c.count_round-g.ensures
+pub returns-then-row-rows : goal.returns-then-row-rows
+returns-then-row-rows c =
+    let first-ring-ensures = c.first_ring-row.ensures in
+    let e = c.from-rows.ensures in
+    rings_bad _ _ _ _ (rw e at first-ring-ensures) (omega (arith, e)) c.count_round.ensures
 
 pub returns : goal.returns
 returns c =
-    let e = c.wide-rows.ensures.0 in
-    rings_none _ _ _ (rw e at c.first_ring-r.ensures) (omega (arith, e)) refl
+    let e = c.from-rows.ensures in
+    rings_none _ _ _ (rw e at c.first_ring-row.ensures) (omega (arith, e)) refl

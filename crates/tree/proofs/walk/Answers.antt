@@ -6,13 +6,13 @@ use Rattle.tree.proofs.walk.Goals as goal
 
 pub walk_from-requires : goal.walk_from-requires
 walk_from-requires c =
-    let wide-ensures = c.wide-rows.ensures in
+    let from-ensures = c.from.ensures in
     let pre = c.requires in
-    (omega arith, rw wide-ensures.0 (fitting_readable (net_fitting pre)))
+    (omega arith, rw from-ensures (fitting_readable (net_fitting pre)))
 
 pub returns : goal.returns
 returns c =
-    let wide-ensures = c.wide-rows.ensures in
+    let from-ensures = c.from.ensures in
     let pre = c.requires in
-    let w = rw wide-ensures.0 at c.walk_from.ensures in
+    let w = rw from-ensures at c.walk_from.ensures in
     rw (walk_all pre w) at w

@@ -25,17 +25,17 @@ loop-x-init c =
     (rw c.second_end-x.ensures (pre.readable.fit.second _ (omega arith))) pre.joins
     c.walk_from.ensures
 
-pub offset_bounds-place-x : goal.offset_bounds-place-x
-offset_bounds-place-x c = omega (arith, round_fits c.loop-x.invariant)
+pub offset_bounds-walk-x : goal.offset_bounds-walk-x
+offset_bounds-walk-x c = omega (arith, round_fits c.loop-x.invariant)
 
-pub bounds-place-x : goal.bounds-place-x
-bounds-place-x c = omega (arith, round_fits c.loop-x.invariant)
+pub bounds-walk-x : goal.bounds-walk-x
+bounds-walk-x c = omega (arith, round_fits c.loop-x.invariant)
 
-pub offset_bounds-parent-x : goal.offset_bounds-parent-x
-offset_bounds-parent-x c = omega (arith, round_fits c.loop-x.invariant)
+pub offset_bounds-walk-x-in-loop-x : goal.offset_bounds-walk-x-in-loop-x
+offset_bounds-walk-x-in-loop-x c = omega (arith, round_fits c.loop-x.invariant)
 
-pub bounds-parent-x : goal.bounds-parent-x
-bounds-parent-x c = omega (arith, round_fits c.loop-x.invariant)
+pub bounds-walk-x-in-loop-x : goal.bounds-walk-x-in-loop-x
+bounds-walk-x-in-loop-x c = omega (arith, round_fits c.loop-x.invariant)
 
 pub overflow_add-g : goal.overflow_add-g
 overflow_add-g c = omega (arith, c.loop-x.invariant.climbed.most)
@@ -43,12 +43,12 @@ overflow_add-g c = omega (arith, c.loop-x.invariant.climbed.most)
 pub loop-x-smaller : goal.loop-x-smaller
 loop-x-smaller c =
     let loop-inv = c.loop-x.invariant in
-    round_less loop-inv _ c.loop-x-test.true c.wide-x.ensures.0
+    round_less loop-inv _ c.loop-x-test.true c.from-x.ensures
 
 pub loop-x-preserved : goal.loop-x-preserved
 loop-x-preserved c =
     let loop-inv = c.loop-x.invariant in
-    round_more loop-inv _ c.loop-x-test.true c.wide-x.ensures.0
+    round_more loop-inv _ c.loop-x-test.true c.from-x.ensures
 
 pub returns : goal.returns
 returns c = round_end c.loop-x.invariant (omega (arith, c.loop-x-test.false))

@@ -39,13 +39,13 @@ loop-a-smaller-then-place-a c =
     let args = c.args in
     let pre = c.requires in
     let z = later_low pre.0 loop-inv.fits_a c.if-place-a.true in
-    omega (arith, pre.0.earlier _ loop-inv.fits_b z, ap (at args.place.now) c.wide-b.ensures.0)
+    omega (arith, pre.0.earlier _ loop-inv.fits_b z, ap (at args.place.now) c.from-b.ensures)
 
 pub loop-a-preserved-then-place-a : goal.loop-a-preserved-then-place-a
 loop-a-preserved-then-place-a c =
     let loop-inv = c.loop-a.invariant in
     let pre = c.requires in
-    meeting_flip (meeting_step pre.0 c.if-place-a.true c.wide-b.ensures.0 (meeting_flip loop-inv))
+    meeting_flip (meeting_step pre.0 c.if-place-a.true c.from-b.ensures (meeting_flip loop-inv))
 
 pub offset_bounds-parent-a : goal.offset_bounds-parent-a
 offset_bounds-parent-a c = omega (arith, a_in (goal.at.offset_bounds-parent-a c).At-loop-a)
@@ -62,7 +62,7 @@ loop-a-smaller c =
     let l = apart_later pre.0 loop-inv.fits_a loop-inv.fits_b loop-test-taken
     (omega arith) in
     let z = later_low pre.0 loop-inv.fits_b l in
-    omega (arith, pre.0.earlier _ loop-inv.fits_a z, ap (at args.place.now) c.wide-a.ensures.0)
+    omega (arith, pre.0.earlier _ loop-inv.fits_a z, ap (at args.place.now) c.from-a.ensures)
 
 pub loop-a-preserved : goal.loop-a-preserved
 loop-a-preserved c =
@@ -72,7 +72,7 @@ loop-a-preserved c =
     meeting_step pre.0
     (apart_later pre.0 loop-inv.fits_a loop-inv.fits_b loop-test-taken
     (omega arith))
-    c.wide-a.ensures.0 loop-inv
+    c.from-a.ensures loop-inv
 
 pub returns : goal.returns
 returns c = (meeting_end (omega (arith, c.loop-a-test.false)) c.loop-a.invariant, c.loop-a.invariant.fits_a)
