@@ -13,14 +13,12 @@ unfolding bytes
 bytes_length zero x = refl
 bytes_length (suc k) x = ap suc (bytes_length k (x / 256))
 
--- a turn of the loop that stores bytes: what is left to do makes the same as before
-pub bytes_step : (out : List ℕ) (p j y : ℕ) → 0 < j
-    → sets (set out p (y % 256)) (p + 1) (bytes (j - 1) (y / 256)) ≡ sets out p (bytes j y)
+-- a turn of the loop that stores bytes up to place e: what is left to do makes the same as before
+pub bytes_step : (out : List ℕ) (p e y : ℕ) → p < e
+    → sets (set out p (y % 256)) (p + 1) (bytes (e - (p + 1)) (y / 256)) ≡ sets out p (bytes (e - p) y)
 unfolding bytes
-bytes_step out p zero y h = absurd (omega arith)
-bytes_step out p (suc j) y h = let e : suc j - 1 ≡ j = omega arith in rw (e, add-one p)
+bytes_step out p e y h = let f : e - p ≡ suc (e - (p + 1)) = omega arith in rw (f, add-one p)
 
-pub bytes_none : (out : List ℕ) (p j y : ℕ) → j ≤ 0 → sets out p (bytes j y) ≡ out
+pub bytes_none : (out : List ℕ) (p e y : ℕ) → e ≤ p → sets out p (bytes (e - p) y) ≡ out
 unfolding bytes
-bytes_none out p zero y h = refl
-bytes_none out p (suc j) y h = absurd (omega arith)
+bytes_none out p e y h = let f : e - p ≡ 0 = omega arith in rw f

@@ -6,17 +6,11 @@ ghost use Rattle.std.proofs.lemmas.List.Edits.{sets};
 ghost use Rattle.table.specs.Bytes.{u16_at, u32_at};
 ghost use Rattle.numbers.specs.Bytes.{bytes, u64_at};
 
-fn wide(x: u8) -> u64
-    ensures { (result ≡ x) × (result < 256) }
-{
-    x as u64
-}
-
 pub fn two(s: &[u8], i: usize) -> u64
     requires { i + 2 ≤ length s.now }
     ensures { (result ≡ u16_at s.now i) × (result < 65536) }
 {
-    wide(s[i]) + 256 * wide(s[i + 1])
+    u64::from(s[i]) + 256 * u64::from(s[i + 1])
 }
 
 pub fn four(s: &[u8], i: usize) -> u64
@@ -38,13 +32,9 @@ pub fn put_bytes(out: &mut [u8], at: usize, x: u64, k: usize)
     requires { at + k ≤ length out.old }
     ensures { out.new ≡ sets out.old at (bytes k x) }
 {
-    let mut p = at;
-    let mut y = x;
-    let mut j = k;
-    while 0 < j {
-        out[p] = (y % 256) as u8;
-        p += 1;
-        y = y / 256;
-        j -= 1;
+    let mut rest = x;
+    for p in at..at + k {
+        out[p] = (rest % 256) as u8;
+        rest /= 256;
     }
 }

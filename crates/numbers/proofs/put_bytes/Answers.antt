@@ -1,22 +1,10 @@
-use mathlib.Core.Path.{refl, sym, ◌∙◌}
+use mathlib.Core.Path.{sym, ◌∙◌}
 use native.Mathlib.Omega.{arith}
-use lib.ListN.{length-set}
 use Rattle.numbers.proofs.Stored.{bytes_step, bytes_none}
 use Rattle.numbers.proofs.put_bytes.Goals as goal
 
-pub loop-j-init : goal.loop-j-init
-loop-j-init c = (omega arith, refl, refl)
-
-pub loop-j-preserved : goal.loop-j-preserved
-loop-j-preserved c =
-    let h = c.loop-j.invariant in (
-      simp length-set (omega arith),
-      simp length-set h.1,
-      bytes_step _ c.loop-j.p c.loop-j.j c.loop-j.y c.loop-j-test.true ∙ h.2,
-    )
-
-pub shape_of-out : goal.shape_of-out
-shape_of-out c = c.loop-j.invariant.1
+pub loop-p-preserved : goal.loop-p-preserved
+loop-p-preserved c = bytes_step _ _ _ _ (omega arith) ∙ c.loop-p.invariant
 
 pub returns : goal.returns
-returns c = sym (bytes_none _ _ _ _ c.loop-j-test.false) ∙ c.loop-j.invariant.2
+returns c = sym (bytes_none _ _ _ _ (omega arith)) ∙ c.loop-p.invariant
