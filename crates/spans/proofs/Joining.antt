@@ -2,7 +2,7 @@
 -- invariant of `join`'s loop: the places of up from i to m are done, those of down from m to j are passed, and what was
 -- passed stays within the limit for all that is still to come. So where the limit is exact, of the partners passed only
 -- the farthest can reach it, and that is the one kept.
-use Prim.Native.Nat.{ℕ, ◌+◌, ◌-◌, ◌≤◌, ◌<◌, min, max}
+use Prim.Native.Nat.{ℕ, ◌+◌, ◌-◌, ◌≤◌, ◌<◌}
 use mathlib.Core.Path.{◌≡◌, refl, sym, ap, ◌∙◌}
 use mathlib.Core.Bool.{Bool, true}
 use mathlib.Core.Logic.{◌⊎◌, inl, inr}
@@ -14,8 +14,8 @@ use Rattle.limits.specs.work.Fits.{Fits}
 use Rattle.limits.specs.declared.Limit.{Limit}
 use Rattle.limits.proofs.Tests.{fits_most, fits_least, fits_both}
 use Rattle.spans.specs.work.Spans.{InSpan, By, Sorted}
-use Rattle.spans.specs.work.Pairs.{best4, Le, pair_across, Joinable, Across, JoinedBest}
-use Rattle.spans.specs.work.Partners.{Offered, Ahead, Picked, Sofar, Advanced, Tried}
+use Rattle.spans.specs.work.Pairs.{Le, pair_across, Joinable, Across, JoinedBest}
+use Rattle.spans.specs.work.Partners.{Ahead, Picked, Sofar, Advanced, Tried}
 use Rattle.spans.specs.declared.across.Best.{Best}
 use Rattle.spans.proofs.Merging.{in_wider}
 use Rattle.spans.proofs.Order.{le_refl, le_trans, ahead_trans, tie}
@@ -206,32 +206,3 @@ module _ (name ku wu d w up down : List ℕ) (s m e : ℕ) (limit : Limit) (old 
   pub sweep_all : (i j node : ℕ) (best : Best) → Sweep i j node best → i ≤ s
       → JoinedBest name ku wu d w up down s m e (Fits limit) old best
   sweep_all i j node best h b = let k : s ≡ i = omega (arith, h.low) in rw k h.joined
-
-module _ (Within : ℕ → Type 0) (name ku wu d w : List ℕ) (m j x y : ℕ) (old : Best) where
-  pub tried_none : (m < j → Within (at ku x + at d y) → ⊥) → Tried Within name ku wu d w m j x y old old
-  tried_none h = record { keeps = le_refl old; beats = λ n f. absurd (h n f); comes = inl refl }
-
-  module _ (new : Best) (less : m < j) (fits : Within (at ku x + at d y)) where
-    tried : Offered old (pair_across name ku wu d w x y) new → Tried Within name ku wu d w m j x y old new
-    tried o = record { keeps = o.keeps; beats = λ _ _. o.beats; comes = comes o.comes }
-      where
-        comes : (new ≡ old) ⊎ (new ≡ pair_across name ku wu d w x y)
-            → (new ≡ old) ⊎ ((m < j) × Within (at ku x + at d y) × (new ≡ pair_across name ku wu d w x y))
-        comes (inl u) = inl u
-        comes (inr u) = inr (less, fits, u)
-
-    pub tried_low : (a b : ℕ) → a ≡ at name x → b ≡ at name y → a < b
-        → Offered old (best4 (at wu x + at w y) (at ku x + at d y) a b) new
-        → Tried Within name ku wu d w m j x y old new
-    tried_low a b u v h o =
-        let p : min (at name x) (at name y) ≡ a = omega arith in
-        let q : max (at name x) (at name y) ≡ b = omega arith in
-        tried (rw (p, q) o)
-
-    pub tried_high : (a b : ℕ) → a ≡ at name x → b ≡ at name y → b ≤ a
-        → Offered old (best4 (at wu x + at w y) (at ku x + at d y) b a) new
-        → Tried Within name ku wu d w m j x y old new
-    tried_high a b u v h o =
-        let p : min (at name x) (at name y) ≡ b = omega arith in
-        let q : max (at name x) (at name y) ≡ a = omega arith in
-        tried (rw (p, q) o)

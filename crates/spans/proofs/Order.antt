@@ -8,7 +8,7 @@ use mathlib.Core.List.{List}
 use native.Mathlib.Omega.{arith}
 use Rattle.arrays.specs.At.{at}
 use Rattle.spans.specs.work.Pairs.{Le, pair_across}
-use Rattle.spans.specs.work.Partners.{Offered, Better, Preferred, Ahead, Picked}
+use Rattle.spans.specs.work.Partners.{Better, Preferred, Ahead, Picked}
 use Rattle.spans.specs.declared.across.Best.{Best}
 
 pub le_refl : (x : Best) → Le x x
@@ -33,12 +33,6 @@ le_trans {x} {y} {z} p q = record {
         let f = p.low a (omega arith) in let g = q.low a' (omega arith) in
         omega (arith, p.high a (omega arith) (omega arith), q.high a' (omega arith) (omega arith))
 
-pub offered_keep : (old new : Best) → Le new old → Offered old new old
-offered_keep old new h = record { keeps = le_refl old; beats = h; comes = inl refl }
-
-pub offered_take : (old new : Best) → Le old new → Offered old new new
-offered_take old new h = record { keeps = h; beats = le_refl new; comes = inr refl }
-
 pub better_refl : (name d w : List ℕ) (p : ℕ) → Better name d w p p
 better_refl name d w p = omega arith
 
@@ -53,18 +47,6 @@ better_trans {name} {d} {w} {x} {y} {z} p q = record {
     node a a' b =
         let u = p.near a in let v = q.near a' in
         omega (arith, p.node a (omega arith), q.node a' (omega arith))
-
-pub preferred_first : (name d w : List ℕ) (m j old new : ℕ) → j ≤ m → Preferred name d w m j old new new
-preferred_first name d w m j old new h =
-    record { keeps = λ n. absurd (omega arith); beats = better_refl name d w new; comes = inl refl }
-
-pub preferred_old : (name d w : List ℕ) (m j old new : ℕ) → m < j → Better name d w new old
-    → Preferred name d w m j old new old
-preferred_old name d w m j old new b h =
-    record { keeps = λ n. better_refl name d w old; beats = h; comes = inr (b, refl) }
-
-pub preferred_new : (name d w : List ℕ) (m j old new : ℕ) → Better name d w old new → Preferred name d w m j old new new
-preferred_new name d w m j old new h = record { keeps = λ n. h; beats = better_refl name d w new; comes = inl refl }
 
 pub ahead_trans : {exact : Bool} {name d w : List ℕ} {x y z : ℕ} → Ahead exact name d w x y → Ahead exact name d w y z
     → Ahead exact name d w x z

@@ -28,29 +28,14 @@ struct Partner {
 fn offer(best: Best, weight: u64, length: u64, low: usize, high: usize) -> Best
     ensures { Offered best (best4 weight length low high) result }
 {
-    if weight < best.weight {
+    if (weight, best.length, best.low, best.high) <= (best.weight, length, low, high) {
         return best;
     }
-    if weight == best.weight {
-        if best.length < length {
-            return best;
-        }
-        if length == best.length {
-            if best.low < low {
-                return best;
-            }
-            if low == best.low {
-                if best.high <= high {
-                    return best;
-                }
-            }
-        }
-    }
     Best {
-        weight: weight,
-        length: length,
-        low: low,
-        high: high,
+        weight,
+        length,
+        low,
+        high,
     }
 }
 
@@ -68,21 +53,8 @@ fn prefer(
     requires { (new < 4096) × (old < 4096) }
     ensures { Preferred name.now d.now w.now m j old new result }
 {
-    if j <= m {
-        return new;
-    }
-    if w[new] < w[old] {
+    if m < j && (w[new], d[old], name[old]) < (w[old], d[new], name[new]) {
         return old;
-    }
-    if w[new] == w[old] {
-        if d[old] < d[new] {
-            return old;
-        }
-        if d[old] == d[new] {
-            if name[old] < name[new] {
-                return old;
-            }
-        }
     }
     new
 }
@@ -102,10 +74,8 @@ fn pick(
     requires { (new < 4096) × (old < 4096) }
     ensures { Picked exact name.now d.now w.now m j old new result }
 {
-    if exact {
-        if d[new] > d[old] {
-            return new;
-        }
+    if exact && d[new] > d[old] {
+        return new;
     }
     prefer(name, d, w, m, j, old, new)
 }
@@ -128,17 +98,15 @@ fn advance(
         result.to result.node }
     ensures advanced { Advanced d.now down.now e key limit.most from.to result.to }
 {
-    let mut j = from.to;
     let mut node = from.node;
-    while j < e {
+    for j in from.to..e {
         let y = wide(down[j]);
         if limit.most < key + d[y] {
-            return Partner { to: j, node: node };
+            return Partner { to: j, node };
         }
         node = pick(name, d, w, m, j, node, y, limit.exact);
-        j += 1;
     }
-    Partner { to: j, node: node }
+    Partner { to: e, node }
 }
 
 // Offers the pair of x and its best partner y, where one was passed (m < j) and the two fit the limit.
@@ -160,20 +128,14 @@ fn try_pair(
     ensures { Tried (Fits limit) name.now ku.now wu.now d.now
         w.now m j x y best result }
 {
-    if j <= m {
-        return best;
-    }
     let length = ku[x] + d[y];
-    if !fits(limit, length) {
+    if j <= m || !fits(limit, length) {
         return best;
     }
     let weight = wu[x] + w[y];
     let a = wide(name[x]);
     let b = wide(name[y]);
-    if a < b {
-        return offer(best, weight, length, a, b);
-    }
-    offer(best, weight, length, b, a)
+    offer(best, weight, length, a.min(b), a.max(b))
 }
 
 // The best of `best` and the pairs of a place x of up's span, from s to m, and a place y of down's, from m to e, with
@@ -197,26 +159,11 @@ pub fn join(
         w.now up.now down.now s m e (Fits limit) best result }
 {
     let mut all = best;
-    let mut j = m;
-    let mut node: usize = 0;
-    let mut i = m;
-    while s < i {
-        i -= 1;
+    let mut passed = Partner { to: m, node: 0 };
+    for i in (s..m).rev() {
         let x = wide(up[i]);
-        let p = advance(
-            down,
-            name,
-            d,
-            w,
-            m,
-            e,
-            ku[x],
-            limit,
-            Partner { to: j, node: node },
-        );
-        j = p.to;
-        node = p.node;
-        all = try_pair(name, ku, wu, d, w, m, j, x, node, limit, all);
+        passed = advance(down, name, d, w, m, e, ku[x], limit, passed);
+        all = try_pair(name, ku, wu, d, w, m, passed.to, x, passed.node, limit, all);
     }
     all
 }

@@ -1,3 +1,4 @@
+use Prim.Native.Nat.{◌<◌}
 use native.Mathlib.Omega.{arith}
 use Rattle.spans.proofs.Joining.{sweep_none, sweep_back, sweep_node, sweep_all}
 use Rattle.spans.proofs.across.join.Goals as goal
@@ -12,21 +13,21 @@ pub offset_bounds-ku-x : goal.offset_bounds-ku-x
 offset_bounds-ku-x c =
     let h = c.loop-i.invariant in
     let q = c.wide-x.ensures.0 in
-    let t = c.loop-i-test.true in
+    let t : c.args.s < c.loop-i.i = omega arith in
     omega (arith, sweep_node _ _ _ _ _ _ _ _ _ _ _ _ _ _ _ _ _ h.0 h.1 t q)
 
 pub bounds-ku-x : goal.bounds-ku-x
 bounds-ku-x c =
     let h = c.loop-i.invariant in
     let q = c.wide-x.ensures.0 in
-    let t = c.loop-i-test.true in
+    let t : c.args.s < c.loop-i.i = omega arith in
     sweep_node _ _ _ _ _ _ _ _ _ _ _ _ _ _ _ _ _ h.0 h.1 t q
 
-pub advance-p-requires : goal.advance-p-requires
-advance-p-requires c =
+pub advance-passed-requires : goal.advance-passed-requires
+advance-passed-requires c =
     let h = c.loop-i.invariant in
     let q = c.wide-x.ensures.0 in
-    let t = c.loop-i-test.true in
+    let t : c.args.s < c.loop-i.i = omega arith in
     let g = h.1 in record {
       walkable = record {
         within = g.within;
@@ -42,12 +43,12 @@ pub try_pair-all-requires : goal.try_pair-all-requires
 try_pair-all-requires c =
     let h = c.loop-i.invariant in
     let q = c.wide-x.ensures.0 in
-    let t = c.loop-i-test.true in
+    let t : c.args.s < c.loop-i.i = omega arith in
     record {
       given = h.1.given;
       x_bound = (
         sweep_node _ _ _ _ _ _ _ _ _ _ _ _ _ _ _ _ _ h.0 h.1 t q,
-        c.advance-p.ensures.sofar_2.small,
+        c.advance-passed.ensures.sofar_2.small,
       );
     }
 
@@ -55,9 +56,9 @@ pub loop-i-preserved : goal.loop-i-preserved
 loop-i-preserved c =
     let h = c.loop-i.invariant in
     let q = c.wide-x.ensures.0 in
-    let t = c.loop-i-test.true in (
-      sweep_back _ _ _ _ _ _ _ _ _ _ _ _ _ _ _ _ _ _ _ _ h.0 h.1 t q c.advance-p.ensures.sofar_2
-          c.advance-p.ensures.advanced c.try_pair-all.ensures,
+    let t : c.args.s < c.loop-i.i = omega arith in (
+      sweep_back _ _ _ _ _ _ _ _ _ _ _ _ _ _ _ _ _ _ _ _ h.0 h.1 t q c.advance-passed.ensures.sofar_2
+          c.advance-passed.ensures.advanced c.try_pair-all.ensures,
       h.1,
     )
 
