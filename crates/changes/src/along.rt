@@ -141,21 +141,7 @@ pub(crate) fn claim_pair(
             ring: 0,
         });
     }
-    if nodes <= a {
-        return Change::Refused(Refusal {
-            number: 15,
-            row: 0,
-            ring: 0,
-        });
-    }
-    if nodes <= b {
-        return Change::Refused(Refusal {
-            number: 15,
-            row: 0,
-            ring: 0,
-        });
-    }
-    if a == b {
+    if nodes <= a || nodes <= b || a == b {
         return Change::Refused(Refusal {
             number: 15,
             row: 0,

@@ -8,21 +8,12 @@ use marks::{FREE, UNKNOWN, is_spent, run_of};
 pub(crate) fn not_a_run(run: u16) -> bool
     ensures { (result ≡ true → RunNumber run → ⊥) × (result ≡ false → RunNumber run) }
 {
-    if run == FREE {
-        return true;
-    }
-    UNKNOWN <= run
+    run == FREE || UNKNOWN <= run
 }
 
 // Whether the run holds a mark, unspent.
 pub(crate) fn holds(run: u16, mark: u16) -> bool
     ensures { (result ≡ true → HeldBy run mark) × (result ≡ false → HeldBy run mark → ⊥) }
 {
-    if mark == FREE {
-        return false;
-    }
-    if is_spent(mark) {
-        return false;
-    }
-    run_of(mark) == run
+    mark != FREE && !is_spent(mark) && run_of(mark) == run
 }

@@ -15,12 +15,9 @@ fn replace(marks: &mut [u16], run: u16, to: u16) -> u16
         marks.new result }
 {
     let mut k: u16 = 0;
-    let mut i: usize = 0;
-    while i < marks.len() {
-        let r = i;
-        i += 1;
-        if holds(run, marks[r]) {
-            marks[r] = to;
+    for mark in marks.iter_mut() {
+        if holds(run, *mark) {
+            *mark = to;
             k += 1;
         }
     }
@@ -46,8 +43,7 @@ fn settle_net(marks: &mut [u16], nodes: u16, run: u16, to: u16) -> Change
             ring: 0,
         });
     }
-    let k = replace(marks, run, to);
-    Change::Changed(k)
+    Change::Changed(replace(marks, run, to))
 }
 
 pub(crate) fn settle(s: &[u8], marks: &mut [u16], run: u16, to: u16) -> Change

@@ -21,27 +21,25 @@ pub enum Conversion {
 fn too_high(mark: u16) -> bool
     ensures { (result ≡ true → TooHigh mark) × (result ≡ false → ReadsOn mark) }
 {
-    let run = run_of(mark);
     if is_spent(mark) {
-        return run != UNKNOWN;
+        run_of(mark) != UNKNOWN
+    } else {
+        run_of(mark) == UNKNOWN
     }
-    run == UNKNOWN
 }
 
 // 24, over each mark in row order.
 fn each_mark(marks: &[u16]) -> Conversion
     ensures { EachMark marks.now result }
 {
-    let mut r: usize = 0;
-    while r < marks.len() {
-        if too_high(marks[r]) {
+    for (r, mark) in marks.iter().enumerate() {
+        if too_high(*mark) {
             return Conversion::Refused(Refusal {
                 number: 24,
                 row: r,
                 ring: 0,
             });
         }
-        r += 1;
     }
     Conversion::Converted
 }

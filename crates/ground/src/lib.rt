@@ -42,14 +42,10 @@ fn branches(
 {
     arrays::fill_long(bl, 0);
     arrays::fill_long(bw, 0);
-    let mut x: usize = 1;
-    while x < n {
+    for x in 1..n {
         let r = arrays::wide(half[x]) / 2;
         let q = table::row_at(s, r);
-        let l = arrays::long(q.length);
-        let w = arrays::long(marks::lifted_under(s, marks, r));
-        bl[x] = l;
-        bw[x] = w;
-        x += 1;
+        bl[x] = arrays::long(q.length);
+        bw[x] = arrays::long(marks::lifted_under(s, marks, r));
     }
 }

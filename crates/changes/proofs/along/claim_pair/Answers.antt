@@ -41,17 +41,8 @@ returns-then-not_a_run c =
 pub returns-then-nodes-a : goal.returns-then-nodes-a
 returns-then-nodes-a c =
     passed (marked (goal.at.returns-then-nodes-a c).Else-marks-wide)
-    (passed (numbered (goal.at.returns-then-nodes-a c).Else-not_a_run) (refused (λ p. omega (arith, p.first))))
-
-pub returns-then-nodes-b : goal.returns-then-nodes-b
-returns-then-nodes-b c =
-    passed (marked (goal.at.returns-then-nodes-b c).Else-marks-wide)
-    (passed (numbered (goal.at.returns-then-nodes-b c).Else-not_a_run) (refused (λ p. omega (arith, p.second))))
-
-pub returns-then-a-b : goal.returns-then-a-b
-returns-then-a-b c =
-    passed (marked (goal.at.returns-then-a-b c).Else-marks-wide)
-    (passed (numbered (goal.at.returns-then-a-b c).Else-not_a_run) (refused (λ p. p.apart c.if-a-b.true)))
+    (passed (numbered (goal.at.returns-then-nodes-a c).Else-not_a_run)
+    (refused (λ p. omega (arith, p.first, p.second, p.apart, c.then-nodes-a.either))))
 
 pub claim_walked-requires : goal.claim_walked-requires
 claim_walked-requires c =

@@ -12,15 +12,15 @@ returns-then-not_a_run c =
     passed (omega (arith, c.if-marks-wide.false, wide-ensures.0))
     (refused (c.not_a_run.ensures.0 c.if-not_a_run.true))
 
-pub replace-k-requires : goal.replace-k-requires
-replace-k-requires c =
+pub replace-requires : goal.replace-requires
+replace-requires c =
     let if1-left = c.if-marks-wide.false in
     let wide-ensures = c.wide.ensures in
     let pre = c.requires in
     omega (arith, if1-left, wide-ensures.0, pre)
 
 pub shape_of-marks : goal.shape_of-marks
-shape_of-marks c = c.replace-k.ensures.same_many
+shape_of-marks c = c.replace.ensures.same_many
 
 pub returns : goal.returns
 returns c =
@@ -29,4 +29,4 @@ returns c =
     let if1-left = c.if-marks-wide.false in
     let wide-ensures = c.wide.ensures in
     passed (omega (arith, if1-left, wide-ensures.0))
-    (passed (not-a-run-ensures.1 if2-left) c.replace-k.ensures)
+    (passed (not-a-run-ensures.1 if2-left) c.replace.ensures)
