@@ -13,7 +13,6 @@ pub mod Rising
 pub mod Same
 pub mod Net
 pub mod HopsBound
-pub mod Copying
 pub mod HeadsOnly
 pub mod HopsCounted
 pub mod Theorems

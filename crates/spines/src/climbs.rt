@@ -9,10 +9,7 @@ fn one(head: &[u16; 4096], v: usize) -> usize
     requires { v < 4096 }
     ensures { One head.now v result }
 {
-    if arrays::wide(head[v]) == v {
-        return 1;
-    }
-    0
+    usize::from(arrays::wide(head[v]) == v)
 }
 
 // How many heads the climb from x to t passes.

@@ -9,10 +9,7 @@ ghost use Rattle.spines.specs.work.Sweeps.{LeavesAll, Least, Parented, MainsAll,
 fn least(x: u16) -> u16
     ensures { Least x result }
 {
-    if x == 0 {
-        return 1;
-    }
-    x
+    x.max(1)
 }
 
 // How many leaves are below each node: backward over the order, each gives its leaves to its parent.
@@ -26,9 +23,7 @@ pub(crate) fn leaves_of(
     ensures { LeavesAll n parent.now leaves.new }
 {
     arrays::fill(leaves, 0);
-    let mut i = n;
-    while i > 1 {
-        i -= 1;
+    for i in (1..n).rev() {
         let v = arrays::wide(order[i]);
         let p = arrays::wide(parent[v]);
         let w = least(leaves[v]);
@@ -36,22 +31,20 @@ pub(crate) fn leaves_of(
         leaves[v] = w;
         leaves[p] = y;
     }
-    let w = least(leaves[0]);
-    leaves[0] = w;
+    leaves[0] = least(leaves[0]);
 }
 
-// The better of two children, q before c; 4096 is no child.
+// The better of two children, q before c; 4096 is no child, and no None: children stand in the array of 16-bit words
+// that the caller of heads_of lends.
 fn better(leaves: &[u16; 4096], q: usize, c: usize) -> usize
     requires { (q ≤ 4096) × (c < 4096) }
     ensures { MainTaken leaves.now q c result }
 {
-    if q == 4096 {
-        return c;
+    if q == 4096 || leaves[q] < leaves[c] {
+        c
+    } else {
+        q
     }
-    if leaves[q] < leaves[c] {
-        return c;
-    }
-    q
 }
 
 // The main child of each node, 4096 for a leaf: over the node numbers, so that the lowest among equals comes first.
@@ -60,12 +53,10 @@ pub(crate) fn mains_of(parent: &[u16; 4096], leaves: &[u16; 4096], n: usize, mai
     ensures { MainsAll n parent.now main.new }
 {
     arrays::fill(main, 4096);
-    let mut c = 1;
-    while c < n {
+    for c in 1..n {
         let p = arrays::wide(parent[c]);
         let q = arrays::wide(main[p]);
         main[p] = better(leaves, q, c) as u16;
-        c += 1;
     }
 }
 
@@ -74,10 +65,7 @@ fn follow(v: usize, q: u16, h: u16) -> u16
     requires { v < 4096 }
     ensures { Follows v q h result }
 {
-    if arrays::wide(q) == v {
-        return h;
-    }
-    v as u16
+    if arrays::wide(q) == v { h } else { v as u16 }
 }
 
 // The head of each node, forward over the order.
@@ -92,11 +80,9 @@ pub(crate) fn follow_mains(
     ensures { HeadsAll n parent.now head.new }
 {
     arrays::fill(head, 0);
-    let mut i = 1;
-    while i < n {
+    for i in 1..n {
         let v = arrays::wide(order[i]);
         let p = arrays::wide(parent[v]);
         head[v] = follow(v, main[p], head[p]);
-        i += 1;
     }
 }

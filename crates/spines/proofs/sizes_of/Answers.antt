@@ -88,8 +88,8 @@ loop-i-preserved c =
       omega arith,
     )
 
-pub overflow_add-w-2 : goal.overflow_add-w-2
-overflow_add-w-2 c =
+pub overflow_add-size : goal.overflow_add-size
+overflow_add-size c =
     let h = c.loop-i.invariant in
     omega (arith, h.0.holds.some.1, root_size h.0.holds _ _ (omega arith) h.2 h.1)
 

@@ -10,6 +10,3 @@ use Rattle.spines.proofs.sizes_of.Given as goal
 abbrev pub invariant-loop-i : goal.invariant-loop-i
 invariant-loop-i l =
     (k : Ordered l.n l.parent l.order) × Given (Node l.n) l.n l.parent k.place l.i l.size × (0 < l.i) × (l.i ≤ l.n)
-
-abbrev pub decreases-loop-i : goal.decreases-loop-i
-decreases-loop-i l = l.i

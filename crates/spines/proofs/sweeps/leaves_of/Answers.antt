@@ -82,4 +82,4 @@ loop-i-preserved c =
 pub returns : goal.returns
 returns c =
     let h = c.loop-i.invariant in
-    leaves_all h.0.holds _ _ _ (omega arith) h.2 h.1 c.least-w-2.ensures
+    leaves_all h.0.holds _ _ _ (omega arith) h.2 h.1 c.least.ensures

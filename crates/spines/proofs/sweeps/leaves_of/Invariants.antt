@@ -13,6 +13,3 @@ abbrev pub invariant-loop-i : goal.invariant-loop-i
 invariant-loop-i l =
     (k : Ordered l.n l.parent l.order) × Given (Leaf (Child l.n (at l.parent)) l.n) l.n l.parent k.place l.i l.leaves ×
     (0 < l.i) × (l.i ≤ l.n)
-
-abbrev pub decreases-loop-i : goal.decreases-loop-i
-decreases-loop-i l = l.i
