@@ -23,7 +23,7 @@ use Rattle.net.proofs.Counts.{count_same, count_unique, count_some}
 use Rattle.net.proofs.Rises.{TwoRises}
 use Rattle.marks.specs.work.Measured.{one_free, Frees}
 use Rattle.changes.specs.Change.{Changes, Done}
-use Rattle.changes.specs.declared.Change.TheVariants.{Changed, Refused}
+use Rattle.std.specs.Prelude.{Ok, Err}
 use Rattle.changes.specs.Claim.{PathBetween, InReach, Taken}
 use Rattle.changes.specs.work.Climbs.{Held}
 use Rattle.changes.proofs.Held.{FreeIn, frees_count}
@@ -41,12 +41,12 @@ changes_marks {P} {m} {before} {x} {y} p q =
         absurd (n (p.stays r out ∙ sym (q.stays r out)))
 
 pub done_only : (P : ℕ → Type 0) (m : ℕ) (before : List ℕ) → Only (Done P m before)
-done_only P m before (Changed j, x) (Changed k, y) p q =
+done_only P m before (Ok j, x) (Ok k, y) p q =
     let g : j ≡ k = count_unique p.count q.count in
     let h : x ≡ y = changes_marks p q in
-    λ i. (Changed (g i), h i)
-done_only P m before (Changed j, x) (Refused v, y) p q = absurd q
-done_only P m before (Refused w, x) y p q = absurd p
+    λ i. (Ok (g i), h i)
+done_only P m before (Ok j, x) (Err v, y) p q = absurd q
+done_only P m before (Err w, x) y p q = absurd p
 
 count_has : {P : ℕ → Type 0} {k : ℕ} → Count P k → k ≢ 0 → (x : ℕ) × P x
 count_has {P} {k} c m = pick c.list c.long c.only

@@ -21,7 +21,7 @@ use Rattle.marks.specs.work.Measured.{Frees, Measured}
 use Rattle.changes.specs.Change.{change_refusal}
 use Rattle.changes.specs.Claim.{Ended}
 use Rattle.changes.specs.work.Climbs.{ClimbHeld, ClaimReady, Held}
-use Rattle.changes.specs.declared.Change.TheVariants.{Changed}
+use Rattle.std.specs.Prelude.{Ok}
 use Rattle.changes.proofs.Held.{held_both}
 use Rattle.changes.proofs.Changed.{in_reach, claimed, none_free, some_free}
 
@@ -52,7 +52,7 @@ module _ {s : List ℕ} {n : ℕ} {parent half place : List ℕ} (N : Net s n) (
 
       pub all_taken : {mid after : List ℕ} → k + k' ≢ 0 → ClimbHeld parent half a t run before mid
           → ClimbHeld parent half b t run mid after
-          → Ended s n bound before run a b (Changed (k + k'), after)
+          → Ended s n bound before run a b (Ok (k + k'), after)
       all_taken {mid} {after} z p q =
           passed (record { rows = whole.rows; path = whole.path; short = omega (arith, long) })
           (passed (some_free N before whole (λ e. z (sym frees ∙ e)))

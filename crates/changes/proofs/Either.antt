@@ -11,9 +11,8 @@ use Rattle.net.specs.Path.{Sum}
 use Rattle.net.specs.Net.{first_end, second_end, length_of}
 use Rattle.net.proofs.Flip.{flip}
 use Rattle.net.proofs.Counts.{count_same}
-use Rattle.changes.specs.Change.{Done}
-use Rattle.changes.specs.declared.Change.{Change}
-use Rattle.changes.specs.declared.Change.TheVariants.{Changed, Refused}
+use Rattle.changes.specs.Change.{Change, Done}
+use Rattle.std.specs.Prelude.{Ok, Err}
 use Rattle.changes.specs.Claim.{PathBetween, InReach, Taken, Ended}
 
 -- 1 at r, and 0 elsewhere: a list's sum of it tells whether r is in it
@@ -58,13 +57,13 @@ module _ {s : List ℕ} {n a b : ℕ} where
 
 done_alike : {P Q : ℕ → Type 0} (m : ℕ) (before : List ℕ) → ((r : ℕ) → P r → Q r) → ((r : ℕ) → Q r → P r)
     → (o : Change × List ℕ) → Done P m before o → Done Q m before o
-done_alike m before to fro (Changed k, after) d = record {
+done_alike m before to fro (Ok k, after) d = record {
   same_many = d.same_many;
   becomes = λ r q. d.becomes r (fro r q);
   stays = λ r q. d.stays r (λ p. q (to r p));
   count = count_same to fro d.count;
 }
-done_alike m before to fro (Refused w, after) d = d
+done_alike m before to fro (Err w, after) d = d
 
 pub ended_flip : {s before : List ℕ} {n bound run a b : ℕ} {o : Change × List ℕ} → Ended s n bound before run a b o
     → Ended s n bound before run b a o

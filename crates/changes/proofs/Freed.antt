@@ -12,10 +12,9 @@ use Rattle.tree.proofs.Begins.{by_beginning}
 use Rattle.marks.specs.Mark.{spend, Free, HeldBy, RunNumber}
 use Rattle.marks.proofs.Readings.{held?, held_not_free, spent_not_free, own_spent}
 use Rattle.marks.proofs.Weights.{Alike, Freer}
-use Rattle.changes.specs.Change.{change_refusal, Changes, Done, Settles, Commits, Aborts}
+use Rattle.changes.specs.Change.{Change, change_refusal, Changes, Done, Settles, Commits, Aborts}
 use Rattle.changes.specs.Claim.{Taken, Claims}
-use Rattle.changes.specs.declared.Change.{Change}
-use Rattle.changes.specs.declared.Change.TheVariants.{Changed, Refused}
+use Rattle.std.specs.Prelude.{Ok, Err}
 
 -- as many marks as before, and related to them by R
 pub record Leaves (R : List ℕ → List ℕ → Type 0) (before after : List ℕ) : Type 0 where
@@ -32,8 +31,8 @@ module _ (s before : List ℕ) (R : List ℕ → List ℕ → Type 0) (self : R 
 
   done : {P : ℕ → Type 0} {m : ℕ} → ((k : ℕ) (after : List ℕ) → Changes P m before after k → R before after)
       → (o : Change × List ℕ) → Done P m before o → Marks o
-  done f (Changed k, after) c = record { same_many = c.same_many; so = f k after c }
-  done f (Refused why, after) c = absurd c
+  done f (Ok k, after) c = record { same_many = c.same_many; so = f k after c }
+  done f (Err why, after) c = absurd c
 
   settles : {m run : ℕ} {o : Change × List ℕ} → (RunNumber run → (k : ℕ) (after : List ℕ)
       → Changes (λ r. HeldBy run (at before r)) m before after k → R before after)

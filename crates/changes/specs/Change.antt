@@ -1,18 +1,21 @@
 -- What claim, commit and abort leave: the answer, which is why they were refused or how many marks changed, and the
 -- lent marks. And what commit and abort promise.
-use Rattle.std.specs.Prelude.{◌≡◌, List, ℕ, ◌-◌, length}
+use Rattle.std.specs.Prelude.{◌≡◌, List, ℕ, ◌-◌, length, Result, Ok, Err}
 use Rattle.arrays.specs.At.{at}
 use Rattle.table.specs.Refuse.{Unless}
 use Rattle.table.specs.Header.{nodes_of}
 use Rattle.net.specs.Count.{Count}
 use Rattle.tree.specs.Accept.{Begins}
 use Rattle.marks.specs.Mark.{free, spend, HeldBy, RunNumber}
-use Rattle.changes.specs.declared.Change.{Change}
-use Rattle.changes.specs.declared.Change.TheVariants.{Changed, Refused}
+use Rattle.tree.specs.declared.Refusal.{Refusal}
+
+-- how many marks changed, or why none
+abbrev pub Change : Type 0
+Change = Result ℕ Refusal
 
 -- a refusal: number, row and ring, and the marks as they were
 abbrev pub change_refusal : List ℕ → ℕ → ℕ → ℕ → Change × List ℕ
-change_refusal before k r g = (Refused (record { number = k; row = r; ring = g }), before)
+change_refusal before k r g = (Err (record { number = k; row = r; ring = g }), before)
 
 -- each mark at a place of P becomes m, no other mark changes, and k is how many places P has
 pub record Changes (P : ℕ → Type 0) (m : ℕ) (before after : List ℕ) (k : ℕ) : Type 0 where
@@ -23,8 +26,8 @@ pub record Changes (P : ℕ → Type 0) (m : ℕ) (before after : List ℕ) (k :
 
 -- nothing is refused, and the marks change so
 abbrev pub Done : (ℕ → Type 0) → ℕ → List ℕ → Change × List ℕ → Type 0
-Done P m before (Changed k, after) = Changes P m before after k
-Done P m before (Refused w, after) = ⊥
+Done P m before (Ok k, after) = Changes P m before after k
+Done P m before (Err w, after) = ⊥
 
 -- 13 and 14, of a net of n nodes: one mark for each branch, and a run's number; then as the rest says
 abbrev pub MarksAndRun : ℕ → List ℕ → ℕ → (Change × List ℕ → Type 0) → Change × List ℕ → Type 0

@@ -8,8 +8,7 @@ use Rattle.net.specs.Path.{Sum, Path}
 use Rattle.tree.specs.Accept.{Begins}
 use Rattle.net.specs.Net.{first_end, second_end, length_of, TwoNodes}
 use Rattle.marks.specs.Mark.{Free}
-use Rattle.changes.specs.declared.Change.{Change}
-use Rattle.changes.specs.Change.{change_refusal, Done, MarksAndRun}
+use Rattle.changes.specs.Change.{Change, change_refusal, Done, MarksAndRun}
 
 -- the rows rs are the path between a and b in a net of n nodes
 abbrev pub PathBetween : List ℕ → ℕ → ℕ → List ℕ → ℕ → Type 0

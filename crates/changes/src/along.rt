@@ -11,6 +11,8 @@ ghost use Rattle.changes.specs.work.Climbs.{Takes, ClimbHeld, ClaimReady};
 use crate::Change;
 use crate::runs::not_a_run;
 use marks::{FREE, measure_climb};
+use reach::Walk;
+use table::Opened;
 use tree::Refusal;
 
 fn take(marks: &mut [u16], row: usize, run: u16)
@@ -23,24 +25,15 @@ fn take(marks: &mut [u16], row: usize, run: u16)
 }
 
 // The free branches of the climb from x to t become held by the run.
-fn hold(
-    marks: &mut [u16],
-    parent: &[u16; 4096],
-    half: &[u16; 4096],
-    place: &[u16; 4096],
-    x: usize,
-    t: usize,
-    run: u16,
-)
-    requires { WalkClimb (length marks.old) parent.now half.now place.now x t × (free < run) }
-    ensures { ClimbHeld parent.now half.now x t run marks.old
-        marks.new }
+fn hold(marks: &mut [u16], walk: &Walk, x: usize, t: usize, run: u16)
+    requires { WalkClimb (length marks.old) walk.now.parent walk.now.half walk.now.place x t × (free < run) }
+    ensures { ClimbHeld walk.now.parent walk.now.half x t run marks.old marks.new }
 {
     let mut v = x;
     while v != t {
-        let r = arrays::wide(half[v]) / 2;
+        let r = usize::from(walk.half[v]) / 2;
         take(marks, r, run);
-        v = arrays::wide(parent[v]);
+        v = usize::from(walk.parent[v]);
     }
 }
 
@@ -48,107 +41,71 @@ fn hold(
 fn claim_path(
     s: &[u8],
     marks: &mut [u16],
-    parent: &[u16; 4096],
-    half: &[u16; 4096],
-    place: &[u16; 4096],
-    nodes: u16,
-    bound: u32,
+    walk: &Walk,
+    net: Opened,
     run: u16,
     a: u16,
     b: u16,
 ) -> Change
-    requires { ClaimReady s.now marks.old nodes run a b
-        × WalkOf s.now nodes parent.now half.now place.now }
-    ensures { Ended s.now nodes bound marks.old run a b
-        (result, marks.new) }
+    requires { ClaimReady s.now marks.old net.nodes run a b
+        × WalkOf s.now net.nodes walk.now.parent walk.now.half walk.now.place }
+    ensures { Ended s.now net.nodes net.bound marks.old run a b (result, marks.new) }
 {
-    let x = arrays::wide(a);
-    let y = arrays::wide(b);
-    let t = tree::meet(parent, place, arrays::wide(nodes), x, y);
-    let ups = measure_climb(s, marks, parent, half, place, x, t);
-    let downs = measure_climb(s, marks, parent, half, place, y, t);
-    if arrays::long(bound) < ups.length + downs.length {
-        return Change::Refused(Refusal {
-            number: 18,
-            row: 0,
-            ring: 0,
-        });
+    let x = usize::from(a);
+    let y = usize::from(b);
+    let t = tree::meet(&walk.parent, &walk.place, usize::from(net.nodes), x, y);
+    let ups = measure_climb(s, marks, walk, x, t);
+    let downs = measure_climb(s, marks, walk, y, t);
+    if u64::from(net.bound) < ups.length + downs.length {
+        return Err(Refusal::TOO_LONG);
     }
     let free = ups.free + downs.free;
     if free == 0 {
-        return Change::Refused(Refusal {
-            number: 19,
-            row: 0,
-            ring: 0,
-        });
+        return Err(Refusal::NONE_FREE);
     }
-    hold(marks, parent, half, place, x, t, run);
-    hold(marks, parent, half, place, y, t, run);
-    Change::Changed(free)
+    hold(marks, walk, x, t, run);
+    hold(marks, walk, y, t, run);
+    Ok(free)
 }
 
 // The walk, in the lent arrays, and the claim over it.
 fn claim_walked(
     s: &[u8],
     marks: &mut [u16],
-    nodes: u16,
-    bound: u32,
+    net: Opened,
     run: u16,
     a: u16,
     b: u16,
-    parent: &mut [u16; 4096],
-    half: &mut [u16; 4096],
-    order: &mut [u16; 4096],
-    place: &mut [u16; 4096],
+    walk: &mut Walk,
 ) -> Change
-    requires { ClaimReady s.now marks.old nodes run a b }
-    ensures { Ended s.now nodes bound marks.old run a b
-        (result, marks.new) }
+    requires { ClaimReady s.now marks.old net.nodes run a b }
+    ensures { Ended s.now net.nodes net.bound marks.old run a b (result, marks.new) }
 {
-    tree::walk(s, nodes, parent, half, order, place);
-    claim_path(s, marks, parent, half, place, nodes, bound, run, a, b)
+    tree::walk(s, net.nodes, walk);
+    claim_path(s, marks, walk, net, run, a, b)
 }
 
 // In an accepted net: 13, 14, 15, and then along the path.
 pub(crate) fn claim_pair(
     s: &[u8],
     marks: &mut [u16],
-    nodes: u16,
-    bound: u32,
+    net: Opened,
     run: u16,
     a: u16,
     b: u16,
-    parent: &mut [u16; 4096],
-    half: &mut [u16; 4096],
-    order: &mut [u16; 4096],
-    place: &mut [u16; 4096],
+    walk: &mut Walk,
 ) -> Change
-    requires { Net s.now nodes }
-    ensures { Claiming s.now nodes bound marks.old run a b
-        (result, marks.new) }
+    requires { Net s.now net.nodes }
+    ensures { Claiming s.now net.nodes net.bound marks.old run a b (result, marks.new) }
 {
-    if marks.len() + 1 != arrays::wide(nodes) {
-        return Change::Refused(Refusal {
-            number: 13,
-            row: 0,
-            ring: 0,
-        });
+    if marks.len() + 1 != usize::from(net.nodes) {
+        return Err(Refusal::MARKS);
     }
     if not_a_run(run) {
-        return Change::Refused(Refusal {
-            number: 14,
-            row: 0,
-            ring: 0,
-        });
+        return Err(Refusal::RUN);
     }
-    if nodes <= a || nodes <= b || a == b {
-        return Change::Refused(Refusal {
-            number: 15,
-            row: 0,
-            ring: 0,
-        });
+    if net.nodes <= a || net.nodes <= b || a == b {
+        return Err(Refusal::NODES);
     }
-    claim_walked(
-        s, marks, nodes, bound, run, a, b, parent, half, order, place,
-    )
+    claim_walked(s, marks, net, run, a, b, walk)
 }

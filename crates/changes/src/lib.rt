@@ -7,47 +7,24 @@ ghost use Rattle.changes.specs.Claim.{Claims};
 use crate::along::claim_pair;
 use crate::settle::settle;
 use marks::{FREE, spend};
-use tree::{Acceptance, Refusal};
+use reach::Walk;
+use tree::Refusal;
 
 mod along;
 mod runs;
 mod settle;
 
 // How many marks an operation changed, or why it did nothing.
-#[derive(Drop)]
-pub enum Change {
-    Changed(u16),
-    Refused(Refusal),
-}
+pub type Change = Result<u16, Refusal>;
 
 // Each free branch of the path between a and b becomes held by the run.
 pub fn claim(s: &[u8], marks: &mut [u16], run: u16, a: u16, b: u16) -> Change
     ensures { Claims s.now marks.old run a b (result, marks.new) }
 {
-    // The walk's arrays, which acceptance uses before there is a walk.
-    let mut parent: [u16; 4096] = [0; 4096];
-    let mut half: [u16; 4096] = [0; 4096];
-    let mut order: [u16; 4096] = [0; 4096];
-    let mut place: [u16; 4096] = [0; 4096];
-    let o = tree::accept_in(s, &mut parent, &mut half, &mut order, &mut place);
-    match o {
-        Acceptance::Refused(why) => Change::Refused(why),
-        Acceptance::Accepted { nodes, bound } => {
-            claim_pair(
-                s,
-                marks,
-                nodes,
-                bound,
-                run,
-                a,
-                b,
-                &mut parent,
-                &mut half,
-                &mut order,
-                &mut place,
-            )
-        }
-    }
+    // Acceptance uses the walk's arrays before there is a walk.
+    let mut walk = Walk::new();
+    let net = tree::accept_in(s, &mut walk)?;
+    claim_pair(s, marks, net, run, a, b, &mut walk)
 }
 
 // Each branch that the run holds, unspent, becomes spent, and its mark keeps the run.

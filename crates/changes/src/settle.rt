@@ -6,7 +6,7 @@ ghost use Rattle.changes.specs.Change.{Changes, Settling, Settles};
 
 use crate::Change;
 use crate::runs::{holds, not_a_run};
-use tree::{Acceptance, Refusal};
+use tree::Refusal;
 
 // Each mark that the run holds, unspent, becomes `to`; how many they were.
 fn replace(marks: &mut [u16], run: u16, to: u16) -> u16
@@ -29,29 +29,18 @@ fn settle_net(marks: &mut [u16], nodes: u16, run: u16, to: u16) -> Change
     requires { (1 ≤ nodes) × (nodes ≤ 4096) }
     ensures { Settling to nodes marks.old run (result, marks.new) }
 {
-    if marks.len() + 1 != arrays::wide(nodes) {
-        return Change::Refused(Refusal {
-            number: 13,
-            row: 0,
-            ring: 0,
-        });
+    if marks.len() + 1 != usize::from(nodes) {
+        return Err(Refusal::MARKS);
     }
     if not_a_run(run) {
-        return Change::Refused(Refusal {
-            number: 14,
-            row: 0,
-            ring: 0,
-        });
+        return Err(Refusal::RUN);
     }
-    Change::Changed(replace(marks, run, to))
+    Ok(replace(marks, run, to))
 }
 
 pub(crate) fn settle(s: &[u8], marks: &mut [u16], run: u16, to: u16) -> Change
     ensures { Settles to s.now marks.old run (result, marks.new) }
 {
-    let o = tree::accept(s);
-    match o {
-        Acceptance::Refused(why) => Change::Refused(why),
-        Acceptance::Accepted { nodes, bound: _ } => settle_net(marks, nodes, run, to),
-    }
+    let net = tree::accept(s)?;
+    settle_net(marks, net.nodes, run, to)
 }

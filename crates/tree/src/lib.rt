@@ -1,6 +1,7 @@
 // Acceptance, refusals 1 to 11 in order; the walk of an accepted net; and where two climbs to its root meet.
 #![tactic(auto)]
 
+mod refusals;
 mod round;
 mod two_climbs;
 

@@ -10,24 +10,24 @@ use Rattle.changes.proofs.along.claim_path.Goals as goal
 pub meet-t-requires : goal.meet-t-requires
 meet-t-requires c =
     let pre = c.requires in (
-      rw c.wide.ensures.0 (walk_hung pre.0.net pre.1.walked),
-      omega (arith, c.wide-x.ensures.0, c.wide.ensures.0, pre.0.pair.first),
-      omega (arith, c.wide-y.ensures.0, c.wide.ensures.0, pre.0.pair.second),
+      rw c.from.ensures (walk_hung pre.0.net pre.1.walked),
+      omega (arith, c.from-x.ensures, c.from.ensures, pre.0.pair.first),
+      omega (arith, c.from-y.ensures, c.from.ensures, pre.0.pair.second),
     )
 
 pub measure_climb-ups-requires : goal.measure_climb-ups-requires
 measure_climb-ups-requires c =
-    let wide-ensures = c.wide-x.ensures in
+    let from-x = c.from-x.ensures in
     let pre = c.requires in
-    walk_climb pre.0.net pre.1.walked pre.0.many (omega (arith, wide-ensures.0, pre.0.pair.first))
+    walk_climb pre.0.net pre.1.walked pre.0.many (omega (arith, from-x, pre.0.pair.first))
     c.meet-t.ensures.0.first
 
 pub measure_climb-downs-requires : goal.measure_climb-downs-requires
 measure_climb-downs-requires c =
     let meet-ensures = c.meet-t.ensures in
-    let wide2-ensures = c.wide-y.ensures in
+    let from-y = c.from-y.ensures in
     let pre = c.requires in
-    walk_climb pre.0.net pre.1.walked pre.0.many (omega (arith, wide2-ensures.0, pre.0.pair.second))
+    walk_climb pre.0.net pre.1.walked pre.0.many (omega (arith, from-y, pre.0.pair.second))
     meet-ensures.0.second
 
 pub overflow_add-ups : goal.overflow_add-ups
@@ -36,17 +36,17 @@ overflow_add-ups c =
     let ups = c.measure_climb-ups.ensures in
     omega (arith, ups.most, downs.most)
 
-pub returns-then-long-ups : goal.returns-then-long-ups
-returns-then-long-ups c =
-    let long-ensures = c.long.ensures in
+pub returns-then-from-ups : goal.returns-then-from-ups
+returns-then-from-ups c =
+    let long-ensures = c.from-2.ensures in
     let downs = c.measure_climb-downs.ensures in
     let ups = c.measure_climb-ups.ensures in
     let meet-ensures = c.meet-t.ensures in
-    let ey = c.wide-y.ensures.0 in
-    let ex = c.wide-x.ensures.0 in
+    let ey = c.from-y.ensures in
+    let ex = c.from-x.ensures in
     let pre = c.requires in
     too_long pre.0.net pre.1 pre.0 (rw (ex, ey) at meet-ensures.0) (rw ex at ups) (rw ey at downs)
-    (omega (arith, c.if-long-ups.true, long-ensures.0))
+    (omega (arith, c.if-from-ups.true, long-ensures))
 
 pub overflow_add-free : goal.overflow_add-free
 overflow_add-free c =
@@ -56,23 +56,23 @@ overflow_add-free c =
 
 pub returns-then-free-eq0 : goal.returns-then-free-eq0
 returns-then-free-eq0 c =
-    let if1-left = c.if-long-ups.false in
-    let long-ensures = c.long.ensures in
+    let if1-left = c.if-from-ups.false in
+    let long-ensures = c.from-2.ensures in
     let downs = c.measure_climb-downs.ensures in
     let ups = c.measure_climb-ups.ensures in
     let meet-ensures = c.meet-t.ensures in
-    let ey = c.wide-y.ensures.0 in
-    let ex = c.wide-x.ensures.0 in
+    let ey = c.from-y.ensures in
+    let ex = c.from-x.ensures in
     let pre = c.requires in
     all_marked pre.0.net pre.1 pre.0 (rw (ex, ey) at meet-ensures.0) (rw ex at ups) (rw ey at downs)
-    (omega (arith, if1-left, long-ensures.0)) c.if-free-eq0.true
+    (omega (arith, if1-left, long-ensures)) c.if-free-eq0.true
 
 pub hold-requires : goal.hold-requires
 hold-requires c =
     let meet-ensures = c.meet-t.ensures in
-    let wide-ensures = c.wide-x.ensures in
+    let from-x = c.from-x.ensures in
     let pre = c.requires in (
-      (walk_climb pre.0.net pre.1.walked pre.0.many (omega (arith, wide-ensures.0, pre.0.pair.first))
+      (walk_climb pre.0.net pre.1.walked pre.0.many (omega (arith, from-x, pre.0.pair.first))
           meet-ensures.0.first).0,
       pre.0.number.above,
     )
@@ -81,10 +81,10 @@ pub hold-requires-2 : goal.hold-requires-2
 hold-requires-2 c =
     let hold-ensures = c.hold.ensures in
     let meet-ensures = c.meet-t.ensures in
-    let wide2-ensures = c.wide-y.ensures in
+    let from-y = c.from-y.ensures in
     let pre = c.requires in (
       (walk_climb pre.0.net pre.1.walked (hold-ensures.held.same_many ∙ pre.0.many)
-          (omega (arith, wide2-ensures.0, pre.0.pair.second)) meet-ensures.0.second).0,
+          (omega (arith, from-y, pre.0.pair.second)) meet-ensures.0.second).0,
       pre.0.number.above,
     )
 
@@ -97,14 +97,14 @@ pub returns : goal.returns
 returns c =
     let hold-ensures = c.hold.ensures in
     let if2-left = c.if-free-eq0.false in
-    let if1-left = c.if-long-ups.false in
-    let long-ensures = c.long.ensures in
+    let if1-left = c.if-from-ups.false in
+    let long-ensures = c.from-2.ensures in
     let downs = c.measure_climb-downs.ensures in
     let ups = c.measure_climb-ups.ensures in
     let meet-ensures = c.meet-t.ensures in
-    let ey = c.wide-y.ensures.0 in
-    let ex = c.wide-x.ensures.0 in
+    let ey = c.from-y.ensures in
+    let ex = c.from-x.ensures in
     let pre = c.requires in
     all_taken pre.0.net pre.1 pre.0 (rw (ex, ey) at meet-ensures.0) (rw ex at ups) (rw ey at downs)
-    (omega (arith, if1-left, long-ensures.0)) if2-left (rw ex at hold-ensures)
+    (omega (arith, if1-left, long-ensures)) if2-left (rw ex at hold-ensures)
     (rw ey at c.hold-2.ensures)

@@ -5,7 +5,7 @@ use Rattle.changes.proofs.Climbing.{Taking}
 use Rattle.changes.proofs.along.hold.Given as goal
 
 abbrev pub invariant-loop-v : goal.invariant-loop-v
-invariant-loop-v l = Taking l.initial.marks l.parent l.half l.place l.x l.t l.run l.v l.marks
+invariant-loop-v l = Taking l.initial.marks l.walk.parent l.walk.half l.walk.place l.x l.t l.run l.v l.marks
 
 abbrev pub decreases-loop-v : goal.decreases-loop-v
-decreases-loop-v l = at l.place l.v
+decreases-loop-v l = at l.walk.place l.v
