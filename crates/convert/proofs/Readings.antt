@@ -13,7 +13,7 @@ use Rattle.marks.specs.Mark.{top, unknown, run_of, Free, RunNumber}
 use Rattle.marks.proofs.Readings.{own_held}
 use Rattle.convert.specs.Old.{ReadsOn, still_free, still_held, still_spent}
 use Rattle.convert.specs.Convert.{conversion_refusal, TooHigh, MarkNumber, EachMark}
-use Rattle.convert.specs.declared.Conversion.TheVariants.{Converted}
+use Rattle.std.specs.Prelude.{Ok}
 
 pub spent_on : {m : ℕ} → m < 65536 → top ≤ m → run_of m ≡ unknown → ReadsOn m
 spent_on l s e = still_spent (omega (arith, l, s, e)) (record { spent = s; keeps = e })
@@ -50,5 +50,5 @@ module _ (marks : List ℕ) {r : ℕ} (b : Behind marks r) where
   pub behind_bad : r < length marks → TooHigh (at marks r) → EachMark marks (conversion_refusal 24 r 0)
   behind_bad l h = bad r 24 l good (refused (λ n. n h)) (λ e. omega (arith, e))
 
-  pub behind_all : length marks ≤ r → EachMark marks Converted
-  behind_all h = fine {x = Converted} (λ i l. good i (omega (arith, l, h))) (λ i l. b i (omega (arith, l, h)))
+  pub behind_all : length marks ≤ r → EachMark marks (Ok tt)
+  behind_all h = fine {x = Ok tt} (λ i l. good i (omega (arith, l, h))) (λ i l. b i (omega (arith, l, h)))

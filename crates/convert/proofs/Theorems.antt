@@ -1,6 +1,6 @@
 -- AN OLD SET OF MARKS, CONVERTED, READS AS IT DID: at each row what was free is free, what was held is held by the same
 -- run, which is a run's number still, and what was spent is spent by "unknown"; and nothing else reads so. Each is read
--- off the promise, of an answer `Converted`: nothing was refused.
+-- off the promise, of an answer `Ok`: nothing was refused.
 use mathlib.Core.Path.{◌≡◌, sym, ap, ◌∙◌}
 use mathlib.Core.List.{List}
 use Prim.Native.Nat.{ℕ, ◌-◌, ◌<◌}
@@ -13,15 +13,14 @@ use Rattle.tree.proofs.Begins.{begins_past}
 use Rattle.marks.specs.Mark.{unknown, Free, HeldBy, SpentBy, RunNumber}
 use Rattle.marks.proofs.Readings.{held_not_free, spent_not_free, held_not_spent, held_one, spent_one}
 use Rattle.convert.specs.Old.{WasFree, WasHeldBy, WasSpent, ReadsOn, still_free, still_held, still_spent}
-use Rattle.convert.specs.Convert.{conversion_refusal, Converts}
-use Rattle.convert.specs.declared.Conversion.{Conversion}
-use Rattle.convert.specs.declared.Conversion.TheVariants.{Converted, Refused}
+use Rattle.convert.specs.Convert.{Conversion, conversion_refusal, Converts}
+use Rattle.std.specs.Prelude.{Ok, Err}
 
 abbrev done : Conversion → ℕ
-done Converted = 1
-done (Refused why) = 0
+done (Ok given) = 1
+done (Err why) = 0
 
-plain : (k r g : ℕ) → conversion_refusal k r g ≡ Converted → ⊥
+plain : (k r g : ℕ) → conversion_refusal k r g ≡ Ok tt → ⊥
 plain k r g e = omega (arith, ap done e)
 
 -- one mark: whatever its number it is free exactly if it was, since no number changes
@@ -50,7 +49,7 @@ spent_was (still_held own v h N) t = absurd (held_not_spent h t)
 spent_was (still_spent e u) t = (e, spent_one t u)
 
 -- the whole set: a mark for each branch, and each reads as it did
-pub converted : (s marks : List ℕ) → Converts s marks Converted
+pub converted : (s marks : List ℕ) → Converts s marks (Ok tt)
     → (length marks ≡ nodes_of s - 1) × ((r : ℕ) → r < length marks → ReadsOn (at marks r))
 converted s marks p =
     let a = past (plain 13 0 0) (begins_past conversion_refusal s plain p).1 in

@@ -1,15 +1,18 @@
 -- Convert: an old set of marks is brought over, with no number changed, where every mark then reads as it did.
-use Rattle.std.specs.Prelude.{◌≡◌, List, ℕ, ◌-◌, ◌≤◌, ◌<◌, length}
+use Rattle.std.specs.Prelude.{◌≡◌, List, ℕ, ◌-◌, ◌≤◌, ◌<◌, length, Result, Ok, Err}
 use Rattle.arrays.specs.At.{at}
 use Rattle.table.specs.Refuse.{Unless, FirstBad}
 use Rattle.table.specs.Header.{nodes_of}
 use Rattle.tree.specs.Accept.{Begins}
 use Rattle.convert.specs.Old.{ReadsOn}
-use Rattle.convert.specs.declared.Conversion.{Conversion}
-use Rattle.convert.specs.declared.Conversion.TheVariants.{Converted, Refused}
+use Rattle.tree.specs.declared.Refusal.{Refusal}
+
+-- brought over, or why not
+abbrev pub Conversion : Type 0
+Conversion = Result (Unit {0}) Refusal
 
 abbrev pub conversion_refusal : ℕ → ℕ → ℕ → Conversion
-conversion_refusal k r g = Refused (record { number = k; row = r; ring = g })
+conversion_refusal k r g = Err (record { number = k; row = r; ring = g })
 
 -- an old mark from 32,767 to 65,534: held by a run whose number is none any more
 abbrev pub TooHigh : ℕ → Type 0
@@ -21,8 +24,8 @@ MarkNumber marks r = Unless ℕ 24 (TooHigh (at marks r) → ⊥) (λ k. k ≡ 0
 
 -- every mark reads as it did
 abbrev pub GivesMarks : List ℕ → Conversion → Type 0
-GivesMarks marks Converted = (r : ℕ) → r < length marks → ReadsOn (at marks r)
-GivesMarks marks (Refused why) = ⊥
+GivesMarks marks (Ok done) = (r : ℕ) → r < length marks → ReadsOn (at marks r)
+GivesMarks marks (Err why) = ⊥
 
 -- 24 over all marks, the first such row named
 abbrev pub EachMark : List ℕ → Conversion → Type 0

@@ -7,14 +7,10 @@ ghost use Rattle.convert.specs.Old.{ReadsOn};
 ghost use Rattle.convert.specs.Convert.{TooHigh, EachMark, Converting, Converts};
 
 use marks::{UNKNOWN, is_spent, run_of};
-use tree::{Acceptance, Refusal};
+use tree::Refusal;
 
 // The marks are brought over, or why not.
-#[derive(Drop)]
-pub enum Conversion {
-    Converted,
-    Refused(Refusal),
-}
+pub type Conversion = Result<(), Refusal>;
 
 // Whether an old mark does not read as it did. Of those with the top bit set 65,535 alone was spent, and of the others
 // "unknown" alone was held by a run whose number is none any more.
@@ -34,14 +30,14 @@ fn each_mark(marks: &[u16]) -> Conversion
 {
     for (r, mark) in marks.iter().enumerate() {
         if too_high(*mark) {
-            return Conversion::Refused(Refusal {
+            return Err(Refusal {
                 number: 24,
                 row: r,
                 ring: 0,
             });
         }
     }
-    Conversion::Converted
+    Ok(())
 }
 
 // In an accepted net: 13, then each mark.
@@ -49,12 +45,8 @@ fn convert_net(marks: &[u16], nodes: u16) -> Conversion
     requires { 1 ≤ nodes }
     ensures { Converting nodes marks.now result }
 {
-    if marks.len() + 1 != arrays::wide(nodes) {
-        return Conversion::Refused(Refusal {
-            number: 13,
-            row: 0,
-            ring: 0,
-        });
+    if marks.len() + 1 != usize::from(nodes) {
+        return Err(Refusal::MARKS);
     }
     each_mark(marks)
 }
@@ -63,9 +55,6 @@ fn convert_net(marks: &[u16], nodes: u16) -> Conversion
 pub fn convert(s: &[u8], marks: &[u16]) -> Conversion
     ensures { Converts s.now marks.now result }
 {
-    let o = tree::accept(s);
-    match o {
-        Acceptance::Refused(why) => Conversion::Refused(why),
-        Acceptance::Accepted { nodes, bound: _ } => convert_net(marks, nodes),
-    }
+    let net = tree::accept(s)?;
+    convert_net(marks, net.nodes)
 }

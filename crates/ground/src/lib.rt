@@ -4,26 +4,24 @@
 ghost use Rattle.net.specs.work.Net.{Net};
 ghost use Rattle.ground.specs.work.Grounded.{BranchesReadable, Branches, Grounded};
 
+use reach::Walk;
+
 // The walk of an accepted net, and its branches. A sweep that stands on them reads no half-branches any more: half is
 // then the caller's to lend on.
 pub fn grounded(
     s: &[u8],
     marks: &[u16],
     nodes: u16,
-    parent: &mut [u16; 4096],
-    half: &mut [u16; 4096],
-    order: &mut [u16; 4096],
-    place: &mut [u16; 4096],
+    walk: &mut Walk,
     bl: &mut [u64; 4096],
     bw: &mut [u64; 4096],
 )
     requires { Net s.now nodes }
-    ensures { Grounded s.now marks.now nodes parent.new half.new
-        order.new place.new bl.new bw.new }
+    ensures { Grounded s.now marks.now nodes walk.new.parent walk.new.half
+        walk.new.order walk.new.place bl.new bw.new }
 {
-    tree::walk(s, nodes, parent, half, order, place);
-    let n = arrays::wide(nodes);
-    branches(s, marks, half, n, bl, bw);
+    tree::walk(s, nodes, walk);
+    branches(s, marks, &walk.half, usize::from(nodes), bl, bw);
 }
 
 // For each node but 0 the length and the lifted weight of the branch to its parent,
@@ -43,9 +41,8 @@ fn branches(
     arrays::fill_long(bl, 0);
     arrays::fill_long(bw, 0);
     for x in 1..n {
-        let r = arrays::wide(half[x]) / 2;
-        let q = table::row_at(s, r);
-        bl[x] = arrays::long(q.length);
-        bw[x] = arrays::long(marks::lifted_under(s, marks, r));
+        let r = usize::from(half[x]) / 2;
+        bl[x] = u64::from(table::row_at(s, r).length);
+        bw[x] = u64::from(marks::lifted_under(s, marks, r));
     }
 }

@@ -17,26 +17,26 @@ use Rattle.tree.proofs.Begins.{begins_net_only}
 use Rattle.spines.specs.Heads.{heads_refusal, Heads, ListsHeads, Headings}
 use Rattle.spines.specs.work.Parents.{HeadsAll}
 use Rattle.spines.specs.work.Copy.{HeadsCopied}
-use Rattle.spines.specs.declared.HeadsAnswer.TheVariants.{Written, Refused}
+use Rattle.std.specs.Prelude.{Ok, Err}
 use Rattle.spines.proofs.Net.{head_net, net_head_only}
 
 pub heads_listed : (s : List ℕ) (n : ℕ) {parent half order place head before list : List ℕ} → Net s n
     → Walked (first_end s) (second_end s) (n - 1) n parent half order place → HeadsAll n parent head
-    → HeadsCopied head before list → length before ≡ n → ListsHeads s before n (Written, list)
+    → HeadsCopied head before list → length before ≡ n → ListsHeads s before n (Ok tt, list)
 heads_listed s n {list} t w h c e =
-    passed {x = (Written, list)} e (
+    passed {x = (Ok tt, list)} e (
       c.long ∙ e,
       λ v b. rw (c.each v (omega (arith, e)))
           (head_net (walk_rooted t w) (grown_tree (walk_grown t w)) t.some (h.each v b)),
     )
 
 heads_one : (s : List ℕ) (n : ℕ) → Net s n → Only (Heads s n)
-heads_one s n t (Written, l) (Written, m) p q =
+heads_one s n t (Ok one, l) (Ok other, m) p q =
     let e : l ≡ m = ext_get_or 0 l m (p.0 ∙ sym q.0)
     (λ i b. net_head_only t.forest (p.1 i (rw p.0 at b)) (q.1 i (rw p.0 at b))) in
-    λ i. (Written, e i)
-heads_one s n t (Written, l) (Refused w, m) p q = absurd q
-heads_one s n t (Refused w, l) y p q = absurd p
+    λ i. (Ok one, e i)
+heads_one s n t (Ok one, l) (Err w, m) p q = absurd q
+heads_one s n t (Err w, l) y p q = absurd p
 
 pub heads_only : (s before : List ℕ) → Only (Headings s before)
 heads_only s before = begins_net_only (heads_refusal before) s (λ t. unless_only (heads_one s (nodes_of s) t))

@@ -9,7 +9,7 @@ fn one(head: &[u16; 4096], v: usize) -> usize
     requires { v < 4096 }
     ensures { One head.now v result }
 {
-    usize::from(arrays::wide(head[v]) == v)
+    usize::from(usize::from(head[v]) == v)
 }
 
 // How many heads the climb from x to t passes.
@@ -28,7 +28,7 @@ fn passed_heads(
     let mut passed: usize = 0;
     while v != t {
         passed += one(head, v);
-        v = arrays::wide(parent[v]);
+        v = usize::from(parent[v]);
     }
     passed
 }

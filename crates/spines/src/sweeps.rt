@@ -24,8 +24,8 @@ pub(crate) fn leaves_of(
 {
     arrays::fill(leaves, 0);
     for i in (1..n).rev() {
-        let v = arrays::wide(order[i]);
-        let p = arrays::wide(parent[v]);
+        let v = usize::from(order[i]);
+        let p = usize::from(parent[v]);
         let w = least(leaves[v]);
         let y = leaves[p] + w;
         leaves[v] = w;
@@ -54,8 +54,8 @@ pub(crate) fn mains_of(parent: &[u16; 4096], leaves: &[u16; 4096], n: usize, mai
 {
     arrays::fill(main, 4096);
     for c in 1..n {
-        let p = arrays::wide(parent[c]);
-        let q = arrays::wide(main[p]);
+        let p = usize::from(parent[c]);
+        let q = usize::from(main[p]);
         main[p] = better(leaves, q, c) as u16;
     }
 }
@@ -65,7 +65,7 @@ fn follow(v: usize, q: u16, h: u16) -> u16
     requires { v < 4096 }
     ensures { Follows v q h result }
 {
-    if arrays::wide(q) == v { h } else { v as u16 }
+    if usize::from(q) == v { h } else { v as u16 }
 }
 
 // The head of each node, forward over the order.
@@ -81,8 +81,8 @@ pub(crate) fn follow_mains(
 {
     arrays::fill(head, 0);
     for i in 1..n {
-        let v = arrays::wide(order[i]);
-        let p = arrays::wide(parent[v]);
+        let v = usize::from(order[i]);
+        let p = usize::from(parent[v]);
         head[v] = follow(v, main[p], head[p]);
     }
 }

@@ -3,8 +3,8 @@ use native.Mathlib.Omega.{arith}
 use Rattle.table.specs.Refuse.{refused, passed}
 use Rattle.convert.proofs.convert_net.Goals as goal
 
-pub returns-then-marks-wide : goal.returns-then-marks-wide
-returns-then-marks-wide c = refused (λ e. omega (arith, c.if-marks-wide.true, c.wide.ensures.0, c.requires))
+pub returns-then-marks-from : goal.returns-then-marks-from
+returns-then-marks-from c = refused (λ e. omega (arith, c.if-marks-from.true, c.from.ensures, c.requires))
 
 pub returns : goal.returns
-returns c = passed (omega (arith, c.if-marks-wide.false, c.wide.ensures.0)) c.each_mark.ensures
+returns c = passed (omega (arith, c.if-marks-from.false, c.from.ensures)) c.each_mark.ensures

@@ -11,13 +11,13 @@ loop-x-init c = branches_none c.fill_long.ensures c.fill_long-2.ensures
 
 pub loop-x-preserved : goal.loop-x-preserved
 loop-x-preserved c =
-    let row = c.wide-r.ensures.0 in
+    let row = c.from-r.ensures in
     let lifted = c.lifted_under.ensures in
-    let weight = c.long-in-loop-x.ensures.0 in
+    let weight = c.from-in-loop-x.ensures in
     let t = c.requires.net in
     let h = row_in c.requires (omega arith) c.loop-x-test.true row in
     branches_more _ _ _ (omega arith) (ap (λ h. h / 2) row)
-    (c.long.ensures.0 ∙ reads_length (t.stands _ h) c.row_at-q.ensures)
+    (c.from.ensures ∙ reads_length (t.stands _ h) c.row_at.ensures)
     (rw weight (under_lifts t h lifted))
     (omega (arith, weight, under_small t h lifted)) c.loop-x.invariant
 

@@ -4,14 +4,14 @@ use Rattle.ground.proofs.grounded.Goals as goal
 
 pub branches-requires : goal.branches-requires
 branches-requires c =
-    let wide-ensures = c.wide-n.ensures in
+    let from-ensures = c.from.ensures in
     let walk-ensures = c.walk.ensures in
     let pre = c.requires in
-    rw wide-ensures.0 (readable pre walk-ensures)
+    rw from-ensures (readable pre walk-ensures)
 
 pub returns : goal.returns
 returns c =
-    let wide-ensures = c.wide-n.ensures in
+    let from-ensures = c.from.ensures in
     let walk-ensures = c.walk.ensures in
     let pre = c.requires in
-    record { net = pre; walked = walk-ensures; branches = rw wide-ensures.0 at c.branches.ensures }
+    record { net = pre; walked = walk-ensures; branches = rw from-ensures at c.branches.ensures }

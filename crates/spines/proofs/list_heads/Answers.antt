@@ -8,20 +8,20 @@ use native.Mathlib.Omega.{arith}
 use Rattle.spines.proofs.list_heads.Goals as goal
 
 pub returns-then-list-n : goal.returns-then-list-n
-returns-then-list-n c = refused (λ e. omega (arith, e, c.wide-n.ensures.0))
+returns-then-list-n c = refused (λ e. omega (arith, e, c.from-n.ensures))
 
 pub heads_of-requires : goal.heads_of-requires
 heads_of-requires c =
     let walk-ensures = c.walk.ensures in
-    let wide-ensures = c.wide-n.ensures in
+    let from-ensures = c.from-n.ensures in
     let pre = c.requires in
-    rw wide-ensures.0 (ordered (walk_grown pre walk-ensures))
+    rw from-ensures (ordered (walk_grown pre walk-ensures))
 
 pub returns : goal.returns
 returns c =
     let heads-of-ensures = c.heads_of.ensures in
     let walk-ensures = c.walk.ensures in
-    let wide-ensures = c.wide-n.ensures in
+    let from-ensures = c.from-n.ensures in
     let pre = c.requires in
-    heads_listed _ _ pre walk-ensures (rw wide-ensures.0 at heads-of-ensures) c.copy.ensures
-    (omega (arith, wide-ensures.0))
+    heads_listed _ _ pre walk-ensures (rw from-ensures at heads-of-ensures) c.copy.ensures
+    (omega (arith, from-ensures))

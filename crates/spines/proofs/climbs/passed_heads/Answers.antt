@@ -23,13 +23,13 @@ pub loop-v-smaller : goal.loop-v-smaller
 loop-v-smaller c =
     let loop-test-taken = c.loop-v-test.true in
     let h = c.loop-v.invariant in
-    rw c.wide-v.ensures.0 (passing_less h.0 (h.1 h.0) loop-test-taken)
+    rw c.from-v.ensures (passing_less h.0 (h.1 h.0) loop-test-taken)
 
 pub loop-v-preserved : goal.loop-v-preserved
 loop-v-preserved c =
     let loop-test-taken = c.loop-v-test.true in
     let h = c.loop-v.invariant in
-    (h.0, λ k. passing_step k (h.1 k) loop-test-taken c.wide-v.ensures.0 c.one-passed.ensures)
+    (h.0, λ k. passing_step k (h.1 k) loop-test-taken c.from-v.ensures c.one-passed.ensures)
 
 pub returns : goal.returns
 returns c = λ k. passing_end k c.loop-v-test.false (c.loop-v.invariant.1 k)

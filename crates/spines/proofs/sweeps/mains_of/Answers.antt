@@ -1,16 +1,16 @@
 use Prim.Native.Nat.{◌<◌}
 use native.Mathlib.Omega.{arith}
 use Rattle.spines.proofs.MainSweep.{bests_none, bests_more, mains_all, best_small, read_child}
-use Rattle.spines.proofs.sweeps.mains_of.Goals.{After-wide-p}
+use Rattle.spines.proofs.sweeps.mains_of.Goals.{After-from-p}
 use Rattle.spines.proofs.sweeps.mains_of.Goals as goal
 
-parent_in : (c : After-wide-p)
-    → c.wide-p.result < c.args.n
+parent_in : (c : After-from-p)
+    → c.from-p.result < c.args.n
 parent_in c =
     let h = c.loop-c.invariant in
-    read_child h.1 _ _ h.2 c.loop-c-test.true c.wide-p.ensures.0
+    read_child h.1 _ _ h.2 c.loop-c-test.true c.from-p.ensures
 
-parent_small : (c : After-wide-p) → c.wide-p.result < 4096
+parent_small : (c : After-from-p) → c.from-p.result < 4096
 parent_small c = omega (arith, c.loop-c.invariant.1.some.1, parent_in c)
 
 pub loop-c-init : goal.loop-c-init
@@ -22,15 +22,15 @@ pub offset_bounds-main-p : goal.offset_bounds-main-p
 offset_bounds-main-p c = omega (arith, parent_small c)
 
 pub bounds-main-p : goal.bounds-main-p
-bounds-main-p c = omega (arith, parent_small (goal.at.bounds-main-p c).After-wide-p)
+bounds-main-p c = omega (arith, parent_small (goal.at.bounds-main-p c).After-from-p)
 
 pub better-requires : goal.better-requires
 better-requires c =
     let h = c.loop-c.invariant in (
       omega (
         arith,
-        c.wide-q.ensures.0,
-        best_small _ h.1.some.1 h.3 (parent_in (goal.at.better-requires c).After-wide-p) h.0,
+        c.from-q.ensures,
+        best_small _ h.1.some.1 h.3 (parent_in (goal.at.better-requires c).After-from-p) h.0,
       ),
       omega (arith, h.1.some.1),
     )
@@ -39,19 +39,19 @@ pub overflow_cast-main : goal.overflow_cast-main
 overflow_cast-main c = omega (arith, c.better.ensures.small)
 
 pub offset_bounds-main-p-in-loop-c : goal.offset_bounds-main-p-in-loop-c
-offset_bounds-main-p-in-loop-c c = omega (arith, parent_small (goal.at.offset_bounds-main-p-in-loop-c c).After-wide-p)
+offset_bounds-main-p-in-loop-c c = omega (arith, parent_small (goal.at.offset_bounds-main-p-in-loop-c c).After-from-p)
 
 pub bounds-main-p-in-loop-c : goal.bounds-main-p-in-loop-c
-bounds-main-p-in-loop-c c = omega (arith, parent_small (goal.at.bounds-main-p-in-loop-c c).After-wide-p)
+bounds-main-p-in-loop-c c = omega (arith, parent_small (goal.at.bounds-main-p-in-loop-c c).After-from-p)
 
 pub loop-c-preserved : goal.loop-c-preserved
 loop-c-preserved c =
     let loop-test-taken = c.loop-c-test.true in
     let h = c.loop-c.invariant in
-    let e = c.wide-p.ensures.0 in (
+    let e = c.from-p.ensures in (
       bests_more _ _ _ _ _ _ _ h.1.some.1 loop-test-taken (omega arith)
-          (rw e at (parent_in (goal.at.loop-c-preserved c).After-wide-p)) e h.0
-          (rw c.wide-q.ensures.0 at c.better.ensures),
+          (rw e at (parent_in (goal.at.loop-c-preserved c).After-from-p)) e h.0
+          (rw c.from-q.ensures at c.better.ensures),
       h.1,
       omega arith,
       omega arith,
