@@ -16,19 +16,6 @@ use Rattle.parts.specs.work.Lift.{key_lift, Low, World}
 use Rattle.parts.specs.work.Items.{Owned}
 use Rattle.parts.specs.work.Listed.{Sizes, Framed, Listed, Alone, RaisedKeys, Lone}
 
-pub alone_set : (s : ℕ) (l : List ℕ) → s < length l → Alone s l (set l s s)
-alone_set s l h = record { is = get_or-set_same l s s 0 h; kept = kept_more s (omega arith) kept_none }
-
-pub raised_none : (f l : List ℕ) (p s : ℕ) → RaisedKeys f p s s l l
-raised_none f l p s = record { done = λ k x y. absurd (omega arith); kept = kept_none }
-
-pub raised_more : (f l m : List ℕ) (p s k v : ℕ) → s ≤ k → k < length m → v + 2 * at f p ≡ key_lift + at f k
-    → RaisedKeys f p s k l m → RaisedKeys f p s (k + 1) l (set m k v)
-raised_more f l m p s k v a b q h = record {
-  done = each_more (λ z x. x + 2 * at f p ≡ key_lift + at f z) m s k v b q h.done;
-  kept = kept_more v a h.kept;
-}
-
 pub raised_small : (f : List ℕ) (p s e : ℕ) (l m : List ℕ) → Low f → e ≤ 4096 → RaisedKeys f p s e l m → Small l
     → Small m
 raised_small f p s e l m o b h g = record { small = λ x n. small x n (dec_lt x s) (dec_lt x e) }
@@ -75,21 +62,6 @@ listed_again d ku x y s e c h q f =
           record { spot = i.spot; low = i.low; high = i.high; is = q i.spot i.low i.high ∙ i.is };
     }
 
-pub lone_alone : (d w : List ℕ) (s : ℕ) (x y ku wu x' y' ku' wu' : List ℕ) → World d w → s < 4096 → Sizes x y ku wu
-    → Alone s x x' → Alone s y y' → RaisedKeys d s s (s + 1) ku ku' → RaisedKeys w s s (s + 1) wu wu'
-    → Lone d w s s (s + 1) x' y' ku' wu' × Framed s (s + 1) x y ku wu x' y' ku' wu'
-lone_alone d w s x y ku wu x' y' ku' wu' o b z f g i j = (
-  record {
-    down = listed_one d x' s f.is;
-    up = listed_one ku' y' s g.is;
-    keys = i.done;
-    weights = j.done;
-    small_ku = raised_small d s s (s + 1) ku ku' o.far (omega arith) i z.small_ku;
-    small_wu = raised_small w s s (s + 1) wu wu' o.heavy (omega arith) j z.small_wu;
-  },
-  record { of_x = f.kept; of_y = g.kept; of_ku = i.kept; of_wu = j.kept },
-)
-
 pub lone_hang : (d w : List ℕ) (t p s e : ℕ) (x y ku wu y' ku' wu' : List ℕ) → World d w → Sizes x y ku wu → e ≤ 4096
     → Listed d x s e → SpanCopied x s e y y' → p ≡ t → RaisedKeys d p s e ku ku' → RaisedKeys w p s e wu wu'
     → Lone d w t s e x y' ku' wu' × Framed s e x y ku wu x y' ku' wu'
@@ -104,25 +76,3 @@ lone_hang d w t p s e x y ku wu y' ku' wu' o z b l c q i j = (
   },
   record { of_x = kept_none; of_y = c.kept; of_ku = i.kept; of_wu = j.kept },
 )
-
--- work arrays that were filled with 0
-pub sizes_filled : {x y ku wu : List ℕ} → Filled 4096 0 x → Filled 4096 0 y → Filled 4096 0 ku → Filled 4096 0 wu
-    → Sizes x y ku wu
-sizes_filled {x} {y} {ku} {wu} a b c d =
-    record {
-      of_x = a.long;
-      of_y = b.long;
-      of_ku = c.long;
-      of_wu = d.long;
-      small_ku = small c;
-      small_wu = small d;
-    }
-  where
-    small : {l : List ℕ} → Filled 4096 0 l → Small l
-    small f = record { small = λ z n. rw (f.each z n) (omega arith) }
-
-pub owned_yes : (head : List ℕ) (h i : ℕ) → at head i ≡ h → Owned head h i true
-owned_yes head h i q = record { yes_own = λ _. q; no_own = λ n. absurd (true≢false n) }
-
-pub owned_no : (head : List ℕ) (h i : ℕ) → (at head i ≡ h → ⊥) → Owned head h i false
-owned_no head h i n = record { yes_own = λ q. absurd (false≢true q); no_own = λ _. n }

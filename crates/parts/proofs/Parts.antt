@@ -75,11 +75,3 @@ module _ (stop head parent : List ℕ) where
       let v : t ≡ e = sym o ∙ sym (i.tree n) ∙ q in
       let u' : Part stop head parent s s e = rw (← v) u in
       record { tree_of = record { own_head = k; parent_in = f; inside = u' }; item = tree n (o ∙ v) f g b u' }
-
--- an item has one end
-pub item_same : {stop head : List ℕ} {h i a b : ℕ} → ItemEnd stop head h i a → ItemEnd stop head h i b → a ≡ b
-item_same {stop} {head} {h} {i} {a} {b} p q = pick (ℕ_discrete (at head i) h)
-  where
-    pick : Dec (at head i ≡ h) → a ≡ b
-    pick (yes e) = p.alone e ∙ sym (q.alone e)
-    pick (no n) = p.tree n ∙ sym (q.tree n)

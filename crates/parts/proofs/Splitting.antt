@@ -52,23 +52,3 @@ module _ (stop head parent : List ℕ) where
         right = f.rest;
         two = λ k. absurd (omega (arith, g.prev_low, g.step));
       }
-
-  pub cut_prev : (h s e prev i : ℕ) → Splitting h s e prev i → s < prev → Cut stop head parent h s e prev
-  cut_prev h s e prev i g b =
-      record { low = b; high = omega (arith, g.step, g.high); left = g.prev_left; right = g.prev_right }
-
-  pub cut_end : (h s e prev i : ℕ) → Splitting h s e prev i → i ≡ e → Cut stop head parent h s e prev
-  cut_end h s e prev i g q = cut_prev h s e prev i g (low (ℕ_discrete prev s))
-    where
-      low : Dec (prev ≡ s) → s < prev
-      low (yes k) = absurd (omega (arith, g.two k))
-      low (no k) = omega (arith, g.prev_low)
-
-  pub cut_next : (h s e prev i : ℕ) → Splitting h s e prev i → (i ≡ e → ⊥) → Cut stop head parent h s e i
-  cut_next h s e prev i g n =
-      record {
-        low = omega (arith, g.prev_low, g.step);
-        high = omega (arith, g.high);
-        left = g.left;
-        right = g.right;
-      }

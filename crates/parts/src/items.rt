@@ -10,10 +10,7 @@ pub(crate) fn own(head: &[u16; 4096], h: usize, i: usize) -> bool
     requires { i < 4096 }
     ensures { Owned head.now h i result }
 {
-    if wide(head[i]) == h {
-        return true;
-    }
-    false
+    wide(head[i]) == h
 }
 
 // Where the item at i of the spine of h ends.
@@ -21,10 +18,11 @@ pub(crate) fn item_end(stop: &[u16; 4096], head: &[u16; 4096], h: usize, i: usiz
     requires { i < 4096 }
     ensures { ItemEnd stop.now head.now h i result }
 {
-    if wide(head[i]) == h {
-        return i + 1;
+    if own(head, h, i) {
+        i + 1
+    } else {
+        wide(stop[i])
     }
-    wide(stop[i])
 }
 
 // The boundary of items nearest the middle of a part of two items or more.
@@ -47,13 +45,8 @@ pub(crate) fn split(
         prev = i;
         i = item_end(stop, head, h, i);
     }
-    if i == e {
+    if i == e || s < prev && mid - prev < i - mid {
         return prev;
-    }
-    if s < prev {
-        if mid - prev < i - mid {
-            return prev;
-        }
     }
     i
 }

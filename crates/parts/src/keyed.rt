@@ -10,13 +10,6 @@ use crate::KEY_LIFT;
 use arrays::wide;
 use spans::copy;
 
-fn narrow(x: usize) -> u16
-    requires { x < 4096 }
-    ensures { result ≡ x }
-{
-    x as u16
-}
-
 // out[i] = 2^40 + from[i] - 2 from[p], for each spot i from s to e.
 fn raise(out: &mut [u64; 4096], from: &[u64; 4096], p: usize, s: usize, e: usize)
     requires low { Low from.now × (length out.old ≡ 4096) }
@@ -24,10 +17,8 @@ fn raise(out: &mut [u64; 4096], from: &[u64; 4096], p: usize, s: usize, e: usize
     ensures { RaisedKeys from.now p s e out.old out.new }
 {
     let base = KEY_LIFT - 2 * from[p];
-    let mut i = s;
-    while i < e {
+    for i in s..e {
         out[i] = base + from[i];
-        i += 1;
     }
 }
 
@@ -36,7 +27,7 @@ fn put(out: &mut [u16; 4096], s: usize)
     requires { (length out.old ≡ 4096) × (s < 4096) }
     ensures { Alone s out.old out.new }
 {
-    out[s] = narrow(s);
+    out[s] = s as u16;
 }
 
 // A node of the spine: both lists are it alone, and it hangs at itself.

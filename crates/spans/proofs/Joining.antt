@@ -3,7 +3,7 @@
 -- passed stays within the limit for all that is still to come. So where the limit is exact, of the partners passed only
 -- the farthest can reach it, and that is the one kept.
 use Prim.Native.Nat.{ℕ, ◌+◌, ◌-◌, ◌≤◌, ◌<◌}
-use mathlib.Core.Path.{◌≡◌, refl, sym, ap, ◌∙◌}
+use mathlib.Core.Path.{◌≡◌, sym, ap, ◌∙◌}
 use mathlib.Core.Bool.{Bool, true}
 use mathlib.Core.Logic.{◌⊎◌, inl, inr}
 use mathlib.Core.List.{List}
@@ -18,19 +18,9 @@ use Rattle.spans.specs.work.Pairs.{Le, pair_across, Joinable, Across, JoinedBest
 use Rattle.spans.specs.work.Partners.{Ahead, Picked, Sofar, Advanced, Tried}
 use Rattle.spans.specs.declared.across.Best.{Best}
 use Rattle.spans.proofs.Merging.{in_wider}
-use Rattle.spans.proofs.Order.{le_refl, le_trans, ahead_trans, tie}
+use Rattle.spans.proofs.Order.{le_trans, ahead_trans, tie}
 
 module _ (exact : Bool) (name d w down : List ℕ) (m e : ℕ) where
-  pub sofar_none : (node : ℕ) → m ≤ e → node < 4096 → Sofar exact name d w down m e m node
-  sofar_none node a b =
-      record {
-        low = omega arith;
-        high = a;
-        small = b;
-        there = λ h. absurd (omega arith);
-        best = λ p x y. absurd (omega arith);
-      }
-
   pub sofar_more : (j node y r : ℕ) → Sofar exact name d w down m e j node → j < e → y ≡ at down j → y < 4096
       → Sorted (By d) down m e → Picked exact name d w m j node y r → Sofar exact name d w down m e (j + 1) r
   sofar_more j node y r h b q n ds f = record {
@@ -65,21 +55,12 @@ module _ (d down : List ℕ) (e key limit j : ℕ) where
     pub low : j ≤ k
     pub within : (p : ℕ) → j ≤ p → p < k → key + at d (at down p) ≤ limit
 
-  pub going_none : Going j
-  going_none = record { low = omega arith; within = λ p x y. absurd (omega arith) }
-
   pub going_more : (k y : ℕ) → Going k → y ≡ at down k → key + at d y ≤ limit → Going (k + 1)
   going_more k y h q b = record { low = omega (arith, h.low); within = λ p x z. within p x z (ℕ_discrete p k) }
     where
       within : (p : ℕ) → j ≤ p → p < k + 1 → Dec (p ≡ k) → key + at d (at down p) ≤ limit
       within p x z (yes u) = rw (u, ← q) b
       within p x z (no u) = h.within p x (omega arith)
-
-  pub going_stop : (k y : ℕ) → Going k → y ≡ at down k → limit < key + at d y → Advanced d down e key limit j k
-  going_stop k y h q b = record { low = h.low; within = h.within; stop = λ _. rw (← q) b }
-
-  pub going_end : (k : ℕ) → Going k → e ≤ k → Advanced d down e key limit j k
-  going_end k h b = record { low = h.low; within = h.within; stop = λ x. absurd (omega arith) }
 
 -- The loop of joining: the rows from i to m are done, and the places of the other span from m to j are passed
 module _ (name ku wu d w up down : List ℕ) (s m e : ℕ) (limit : Limit) (old : Best) where
@@ -89,15 +70,6 @@ module _ (name ku wu d w up down : List ℕ) (s m e : ℕ) (limit : Limit) (old 
     pub joined : JoinedBest name ku wu d w up down i m e (Fits limit) old best
     pub sofar : Sofar limit.exact name d w down m e j node
     pub below : (p q : ℕ) → m ≤ p → p < j → s ≤ q → q < i → at ku (at up q) + at d (at down p) ≤ limit.most
-
-  pub sweep_none : s ≤ m → m ≤ e → Sweep m m 0 old
-  sweep_none a b = record {
-    low = a;
-    high = omega arith;
-    joined = record { keeps = le_refl old; beats = λ i j h₁ h₂ h₃ h₄ h₅. absurd (omega arith); comes = inl refl };
-    sofar = sofar_none limit.exact name d w down m e 0 b (omega arith);
-    below = λ p q h₁ h₂ h₃ h₄. absurd (omega arith);
-  }
 
   pub sweep_more : (i x j node : ℕ) (best : Best) (j' node' : ℕ) (new : Best) → Sweep (i + 1) j node best
       → Sorted (By ku) up s m → Sorted (By d) down m e → s ≤ i → x ≡ at up i
@@ -197,12 +169,3 @@ module _ (name ku wu d w up down : List ℕ) (s m e : ℕ) (limit : Limit) (old 
   sweep_back i x j node best j' node' new h g b q f a o =
       let k : (i - 1) + 1 ≡ i = omega arith in
       sweep_more (i - 1) x j node best j' node' new (rw k h) g.up_sorted g.down_sorted (omega arith) q f a o
-
-  pub sweep_node : (i x j node : ℕ) (best : Best) → Sweep i j node best → Joinable ku wu d w up down s m e → s < i
-      → x ≡ at up (i - 1) → x < 4096
-  sweep_node i x j node best h g b q =
-      omega (arith, q, g.up_nodes.node (i - 1) (omega arith) (omega (arith, h.high)))
-
-  pub sweep_all : (i j node : ℕ) (best : Best) → Sweep i j node best → i ≤ s
-      → JoinedBest name ku wu d w up down s m e (Fits limit) old best
-  sweep_all i j node best h b = let k : s ≡ i = omega (arith, h.low) in rw k h.joined

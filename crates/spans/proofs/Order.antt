@@ -1,14 +1,13 @@
 -- "At least as good" is an order of pairs, and of partners; the better of two is kept or taken; for one place a better
 -- partner makes a better pair.
-use Prim.Native.Nat.{ℕ, ◌≤◌, ◌<◌}
-use mathlib.Core.Path.{◌≡◌, refl}
-use mathlib.Core.Bool.{Bool, true}
-use mathlib.Core.Logic.{◌⊎◌, inl, inr}
+use Prim.Native.Nat.{ℕ, ◌≤◌}
+use mathlib.Core.Path.{◌≡◌}
+use mathlib.Core.Bool.{Bool}
 use mathlib.Core.List.{List}
 use native.Mathlib.Omega.{arith}
 use Rattle.arrays.specs.At.{at}
 use Rattle.spans.specs.work.Pairs.{Le, pair_across}
-use Rattle.spans.specs.work.Partners.{Better, Preferred, Ahead, Picked}
+use Rattle.spans.specs.work.Partners.{Better, Ahead}
 use Rattle.spans.specs.declared.across.Best.{Best}
 
 pub le_refl : (x : Best) → Le x x
@@ -33,9 +32,6 @@ le_trans {x} {y} {z} p q = record {
         let f = p.low a (omega arith) in let g = q.low a' (omega arith) in
         omega (arith, p.high a (omega arith) (omega arith), q.high a' (omega arith) (omega arith))
 
-pub better_refl : (name d w : List ℕ) (p : ℕ) → Better name d w p p
-better_refl name d w p = omega arith
-
 pub better_trans : {name d w : List ℕ} {x y z : ℕ} → Better name d w x y → Better name d w y z → Better name d w x z
 better_trans {name} {d} {w} {x} {y} {z} p q = record {
   weight = omega (arith, p.weight, q.weight);
@@ -56,32 +52,6 @@ ahead_trans p q =
       better = λ h. better_trans (p.better (λ e. omega (arith, q.far e, h e)))
           (q.better (λ e. omega (arith, p.far e, h e)));
     }
-
--- the farther is taken
-pub picked_far : (name d w : List ℕ) (m j old new : ℕ) (exact : Bool) → exact ≡ true → at d old < at d new
-    → Picked exact name d w m j old new new
-picked_far name d w m j old new exact e h = record {
-  keeps = λ n l. record { far = λ _. l; better = λ f. absurd (omega (arith, f e)) };
-  beats = λ l. record { far = λ _. omega arith; better = λ _. better_refl name d w new };
-  comes = inl refl;
-}
-
--- they are equally far, or it does not count
-pub picked_level : (name d w : List ℕ) (m j old new r : ℕ) (exact : Bool) → (exact ≡ true → at d new ≤ at d old)
-    → Preferred name d w m j old new r → Picked exact name d w m j old new r
-picked_level name d w m j old new r exact h p = record {
-  keeps = λ n l. record { far = λ e. far e n l p.comes; better = λ _. p.keeps n };
-  beats = λ l. record { far = λ e. near e l p.comes; better = λ _. p.beats };
-  comes = p.comes;
-}
-  where
-    far : exact ≡ true → m < j → at d old ≤ at d new → (r ≡ new) ⊎ ((m < j) × (r ≡ old)) → at d old ≤ at d r
-    far e n l (inl u) = rw u l
-    far e n l (inr u) = rw u.1 (omega arith)
-
-    near : exact ≡ true → (m < j → at d old ≤ at d new) → (r ≡ new) ⊎ ((m < j) × (r ≡ old)) → at d new ≤ at d r
-    near e l (inl u) = rw u (omega arith)
-    near e l (inr u) = rw u.1 (h e)
 
 -- For one x a better partner is a better pair: an earlier node is an earlier pair
 pub tie : (name ku wu d w : List ℕ) (x p q : ℕ) → Better name d w p q

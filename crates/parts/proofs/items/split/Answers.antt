@@ -1,5 +1,7 @@
+use mathlib.Core.Path.{sym, ◌∙◌}
+use borrow.Author.Tests.{ltb-true}
 use native.Mathlib.Omega.{arith}
-use Rattle.parts.proofs.Splitting.{splitting_first, splitting_more, cut_prev, cut_end, cut_next}
+use Rattle.parts.proofs.Splitting.{splitting_first, splitting_more}
 use Rattle.parts.proofs.items.split.Goals as goal
 
 pub loop-i-init : goal.loop-i-init
@@ -24,18 +26,3 @@ loop-i-preserved c =
       omega arith,
       λ x. omega arith,
     )
-
-pub returns-then-i-e : goal.returns-then-i-e
-returns-then-i-e c = cut_end _ _ _ _ _ _ _ _ c.loop-i.invariant.0 c.if-i-e.true
-
-pub overflow_sub-mid-then-s-prev : goal.overflow_sub-mid-then-s-prev
-overflow_sub-mid-then-s-prev c = omega (arith, c.loop-i.invariant.3 c.if-s-prev.true)
-
-pub returns-then-mid-prev : goal.returns-then-mid-prev
-returns-then-mid-prev c = cut_prev _ _ _ _ _ _ _ _ c.loop-i.invariant.0 c.if-s-prev.true
-
-pub returns-else-mid-prev : goal.returns-else-mid-prev
-returns-else-mid-prev c = cut_next _ _ _ _ _ _ _ _ c.loop-i.invariant.0 c.if-i-e.false
-
-pub returns-else-s-prev : goal.returns-else-s-prev
-returns-else-s-prev c = cut_next _ _ _ _ _ _ _ _ c.loop-i.invariant.0 c.if-i-e.false

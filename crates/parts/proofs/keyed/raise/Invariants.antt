@@ -1,5 +1,5 @@
 -- `parts::raise` meets its contract. The invariant: the keys are raised up to i, and base is the lift less twice the
--- value at p. The measure is what is left of the span.
+-- value at p.
 use Prim.Native.Nat.{◌≤◌, ◌+◌, ◌*◌, ◌-◌}
 use mathlib.Core.Path.{◌≡◌}
 use lib.ListN.{length}
@@ -17,6 +17,3 @@ invariant-loop-i l =
     × (l.base + 2 * at l.from l.p ≡ 1099511627776)
     × Low l.from
     × RaisedKeys l.from l.p l.s l.i l.initial.out l.out
-
-abbrev pub decreases-loop-i : goal.decreases-loop-i
-decreases-loop-i l = l.e - l.i
