@@ -1,20 +1,15 @@
 -- The keys and lists of one item.
 use Prim.Native.Nat.{ℕ, ◌+◌, ◌*◌, ◌^◌, ◌≤◌, ◌<◌}
 use mathlib.Core.Path.{◌≡◌, ◌∙◌}
-use mathlib.Core.Bool.{true, false, true≢false, false≢true}
 use mathlib.Core.List.{List}
 use native.Mathlib.Omega.{arith}
 use native.Mathlib.Decide.{dec_lt}
-use lib.ListN.{length, set}
-use lib.Seq.{get_or-set_same}
 use Rattle.arrays.specs.At.{at}
-use Rattle.arrays.specs.work.Filled.{Filled}
 use Rattle.spans.specs.work.Spans.{InSpan, SpanCopied}
 use Rattle.spans.specs.work.Pairs.{Small}
-use Rattle.spans.proofs.Copying.{kept_none, kept_more, each_more}
+use Rattle.spans.proofs.Copying.{kept_none}
 use Rattle.parts.specs.work.Lift.{key_lift, Low, World}
-use Rattle.parts.specs.work.Items.{Owned}
-use Rattle.parts.specs.work.Listed.{Sizes, Framed, Listed, Alone, RaisedKeys, Lone}
+use Rattle.parts.specs.work.Listed.{Sizes, Framed, Listed, RaisedKeys, Lone}
 
 pub raised_small : (f : List ℕ) (p s e : ℕ) (l m : List ℕ) → Low f → e ≤ 4096 → RaisedKeys f p s e l m → Small l
     → Small m

@@ -3,7 +3,6 @@ use Prim.Native.Nat.{ℕ, ◌+◌, ◌≤◌, ◌<◌}
 use mathlib.Core.Path.{◌≡◌, sym, ◌∙◌}
 use mathlib.Core.List.{List}
 use native.Mathlib.Omega.{arith}
-use native.Mathlib.Decide.{ℕ_discrete}
 use Rattle.arrays.specs.At.{at}
 use Rattle.parts.specs.work.Parts.{Part, none, node, hung, Item, tree}
 use Rattle.parts.specs.work.Searched.{Hangs}

@@ -5,7 +5,7 @@ use mathlib.Core.List.{List}
 use native.Mathlib.Omega.{arith}
 use native.Mathlib.Decide.{ℕ_discrete}
 use Rattle.parts.specs.work.Parts.{Part, none}
-use Rattle.parts.specs.work.Items.{ItemEnd, Cut}
+use Rattle.parts.specs.work.Items.{ItemEnd}
 use Rattle.parts.proofs.Parts.{part_le, part_append, First, first_of}
 
 module _ (stop head parent : List ℕ) where

@@ -1,5 +1,3 @@
-use mathlib.Core.Path.{sym, ◌∙◌}
-use borrow.Author.Tests.{ltb-true}
 use native.Mathlib.Omega.{arith}
 use Rattle.parts.proofs.Splitting.{splitting_first, splitting_more}
 use Rattle.parts.proofs.items.split.Goals as goal

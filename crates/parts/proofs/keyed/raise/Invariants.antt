@@ -1,6 +1,6 @@
 -- `parts::raise` meets its contract. The invariant: the keys are raised up to i, and base is the lift less twice the
 -- value at p.
-use Prim.Native.Nat.{◌≤◌, ◌+◌, ◌*◌, ◌-◌}
+use Prim.Native.Nat.{◌≤◌, ◌+◌, ◌*◌}
 use mathlib.Core.Path.{◌≡◌}
 use lib.ListN.{length}
 use Rattle.arrays.specs.At.{at}
