@@ -60,10 +60,7 @@ fn listing_in_mode(
         Acceptance::Refused(why) => Listed::Refused(why),
         Acceptance::Accepted { nodes, bound } => {
             let most = arrays::long(bound);
-            let limit = Limit {
-                most: most,
-                exact: exact,
-            };
+            let limit = Limit { most, exact };
             go_on(
                 s,
                 marks,
@@ -119,7 +116,8 @@ fn go_on(
     let k = scan::page(
         s, marks, nodes, limit, floor, low, high, parent, half, order, place, rows,
     );
-    let written = k.given;
-    let left = k.left;
-    Listed::Rows { written, left }
+    Listed::Rows {
+        written: k.given,
+        left: k.left,
+    }
 }

@@ -43,12 +43,10 @@ fn firsts(
         end: SUM_END,
     };
     let mut k = Count { given: 0, left: 0 };
-    let mut u = low;
-    while u < n {
+    for u in low..n {
         paths::paths_from(parent, order, place, bl, bw, n, u, above, &mut len, &mut wt);
         let from = pages::first_second(low, high, u, n);
         k = pages::seconds(rows, room, &len, &len, &wt, u, from, n, limit, sums, k);
-        u += 1;
     }
     k
 }

@@ -68,21 +68,7 @@ fn measure(
             ring: 0,
         });
     }
-    if nodes <= a {
-        return PairAnswer::Refused(Refusal {
-            number: 15,
-            row: 0,
-            ring: 0,
-        });
-    }
-    if nodes <= b {
-        return PairAnswer::Refused(Refusal {
-            number: 15,
-            row: 0,
-            ring: 0,
-        });
-    }
-    if a == b {
+    if nodes <= a || nodes <= b || a == b {
         return PairAnswer::Refused(Refusal {
             number: 15,
             row: 0,
@@ -116,10 +102,9 @@ fn show(
     // No climb reads rows any more: the main children stand where the half-branches were.
     spines::heads_of(parent, order, n, half, &mut head);
     let hops = spines::hops(parent, place, &head, n, x, y);
-    let length = way.length;
     let weight = table::lowered(way.weight);
     PairAnswer::Found {
-        length: length as u32,
+        length: way.length as u32,
         weight,
         hops,
     }

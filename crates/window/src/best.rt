@@ -32,22 +32,7 @@ pub(crate) struct Found {
 fn takes(y: u64, x: u64, counts: CountLimits, sums: Sums, count: u64) -> bool
     ensures { Decides (InLimits counts y × InSums sums x × (count ≤ y)) result }
 {
-    if y < count {
-        return false;
-    }
-    if y < counts.fewest {
-        return false;
-    }
-    if counts.most < y {
-        return false;
-    }
-    if x < sums.floor {
-        return false;
-    }
-    if sums.end <= x {
-        return false;
-    }
-    true
+    count <= y && counts.fewest <= y && y <= counts.most && sums.floor <= x && x < sums.end
 }
 
 // The pair u, v in the best pair's place where it has more branches; else it has as many, and the earlier pair stays.
@@ -93,14 +78,10 @@ fn among(
         weight: b.weight,
         hit: 0,
     };
-    let mut v = u + 1;
-    while v < n {
-        let y = key[v];
-        let x = wt[v];
-        if takes(y, x, counts, sums, best.count) {
-            best = better(best, u, v, y, x);
+    for v in u + 1..n {
+        if takes(key[v], wt[v], counts, sums, best.count) {
+            best = better(best, u, v, key[v], wt[v]);
         }
-        v += 1;
     }
     best
 }
@@ -110,10 +91,7 @@ fn among(
 fn met(count: u64, counts: CountLimits, all: bool) -> bool
     ensures { Decides ((all ≡ false) × (count ≡ counts.most)) result }
 {
-    if all {
-        return false;
-    }
-    count == counts.most
+    !all && count == counts.most
 }
 
 // The best of the pairs whose first node is `first` or a later one; both operations begin with 0. ones has 1 for the
@@ -151,15 +129,13 @@ pub(crate) fn best(
         weight: 0,
         hit: 0,
     };
-    let mut u = first;
-    while u < n {
+    for u in first..n {
         if met(b.count, counts, all) {
             return b;
         }
         paths::paths_from(parent, order, place, ones, bw, n, u, above, key, wt);
         b = among(key, wt, u, n, counts, sums, b);
         hits[u] = b.hit;
-        u += 1;
     }
     b
 }

@@ -35,16 +35,7 @@ pub enum WindowAnswer {
 fn proper(fewest: u32, most: u32, floor: i64, ceiling: i64) -> bool
     ensures { Decides (Proper (window fewest most floor ceiling)) result }
 {
-    if fewest == 0 {
-        return false;
-    }
-    if most < fewest {
-        return false;
-    }
-    if ceiling < floor {
-        return false;
-    }
-    true
+    fewest != 0 && fewest <= most && floor <= ceiling
 }
 
 // The best pair of an accepted net; count 0 is none. The four arrays lent are for the walk; half is then a work array
@@ -132,14 +123,11 @@ fn pick(
             ring: 0,
         });
     }
-    let low = b.low as u16;
-    let high = b.high as u16;
-    let count = b.count as u32;
     let weight = table::lowered(b.weight);
     WindowAnswer::Most {
-        low,
-        high,
-        count,
+        low: b.low as u16,
+        high: b.high as u16,
+        count: b.count as u32,
         weight,
     }
 }
@@ -225,9 +213,10 @@ fn list(
     let k = scan::page(
         s, marks, nodes, fewest, most, floor, ceiling, low, high, parent, half, order, place, rows,
     );
-    let written = k.given;
-    let left = k.left;
-    Listed::Rows { written, left }
+    Listed::Rows {
+        written: k.given,
+        left: k.left,
+    }
 }
 
 // All pairs in the window with the greatest branch count of all, strictly after (low, high): as many rows of 16 bytes

@@ -83,14 +83,11 @@ fn firsts(
     let mut len: [u64; 4096] = [0; 4096];
     let room = rows.len() / 16;
     let mut k = Count { given: 0, left: 0 };
-    let mut u = low;
-    while u < n {
-        let hit = hits[u];
+    for u in low..n {
         k = rows_of(
-            parent, order, place, ones, bl, bw, n, u, hit, low, high, limit, sums, room, above,
+            parent, order, place, ones, bl, bw, n, u, hits[u], low, high, limit, sums, room, above,
             key, &mut len, wt, rows, k,
         );
-        u += 1;
     }
     k
 }

@@ -7,15 +7,9 @@ pub returns-then-marks-n : goal.returns-then-marks-n
 returns-then-marks-n c = refused (λ h. c.if-marks-n.true (omega (arith, c.wide-n.ensures)))
 
 pub returns-then-nodes-a : goal.returns-then-nodes-a
-returns-then-nodes-a c = passed (omega (arith, c.wide-n.ensures)) (refused (λ t. omega (arith, t.first)))
-
-pub returns-then-nodes-b : goal.returns-then-nodes-b
-returns-then-nodes-b c = passed (omega (arith, c.wide-n.ensures)) (refused (λ t. omega (arith, t.second)))
-
-pub returns-then-a-b : goal.returns-then-a-b
-returns-then-a-b c =
-    let wide-ensures = c.wide-n.ensures in
-    passed (omega (arith, wide-ensures)) (refused (λ t. t.apart (omega arith)))
+returns-then-nodes-a c =
+    passed (omega (arith, c.wide-n.ensures))
+    (refused (λ t. omega (arith, t.first, t.second, t.apart, c.then-nodes-a.either)))
 
 pub show-requires : goal.show-requires
 show-requires c =

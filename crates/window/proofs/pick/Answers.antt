@@ -58,24 +58,20 @@ returns-then-b-eq0 c =
     (passed (well_put here) (refused (none_inside _ _ (asked here) pre (best_is here) (well_put here).positive
     (omega arith))))
 
-pub overflow_cast-low : goal.overflow_cast-low
-overflow_cast-low c =
-    let here = (goal.at.overflow_cast-low c).After-search-b in
-    let pre = c.requires in
-    omega (arith, nodes_fit _ _ (asked here) pre (best_is here) (omega arith))
+pub overflow_cast-result : goal.overflow_cast-result
+overflow_cast-result c =
+    let here = (goal.at.overflow_cast-result c).After-search-b in
+    omega (arith, nodes_fit _ _ (asked here) c.requires (best_is here) (omega arith))
 
-pub overflow_cast-high : goal.overflow_cast-high
-overflow_cast-high c =
-    let here = (goal.at.overflow_cast-high c).After-search-b in
-    let pre = c.requires in
-    omega (arith, nodes_fit _ _ (asked here) pre (best_is here) (omega arith))
+pub overflow_cast-result-2 : goal.overflow_cast-result-2
+overflow_cast-result-2 c =
+    let here = (goal.at.overflow_cast-result-2 c).After-search-b in
+    omega (arith, nodes_fit _ _ (asked here) c.requires (best_is here) (omega arith))
 
-pub overflow_cast-count : goal.overflow_cast-count
-overflow_cast-count c =
-    let here = (goal.at.overflow_cast-count c).After-search-b in
-    let fits = c.ranges in
-    let pre = c.requires in
-    omega (arith, count_fits _ _ (asked here) pre (best_is here) (omega arith), fits.most.fits)
+pub overflow_cast-result-3 : goal.overflow_cast-result-3
+overflow_cast-result-3 c =
+    let here = (goal.at.overflow_cast-result-3 c).After-search-b in
+    omega (arith, count_fits _ _ (asked here) c.requires (best_is here) (omega arith), c.ranges.most.fits)
 
 pub returns : goal.returns
 returns c =

@@ -1,71 +1,46 @@
+use Prim.Native.Nat.{◌≤◌}
 use native.Mathlib.Omega.{arith}
 use lib.ListN.{length-set}
 use Rattle.window.proofs.Scanning.{searched_none, searched_next, searched_end, searched_early}
+use Rattle.window.proofs.best.best.Goals.{In-loop-u}
 use Rattle.window.proofs.best.best.Goals as goal
+
+few : (c : In-loop-u) → c.args.n ≤ 4096
+few c = c.requires.0.grown.some.1
 
 pub loop-u-init : goal.loop-u-init
 loop-u-init c =
-    let fill-ensures = c.fill.ensures in
-    let pre = c.requires in
-    (λ g. searched_none _ g pre.0.grown.some.1 fill-ensures, pre.0, pre.1, omega arith, fill-ensures.long)
+    let filled = c.fill.ensures in
+    (λ g. searched_none _ g c.requires.0.grown.some.1 filled, c.requires.1, filled.long)
 
 pub returns-then-met : goal.returns-then-met
 returns-then-met c =
-    let loop-inv = c.loop-u.invariant in
-    let enough = (c.met.ensures.holds c.if-met.true).1 in
-    (λ g. searched_early _ g (loop-inv.0 g) enough, loop-inv.2)
+    let inv = c.loop-u.invariant in
+    (λ g. searched_early _ g (inv.0 g) (c.met.ensures.holds c.if-met.true).1, inv.1)
 
 pub paths_from-requires : goal.paths_from-requires
 paths_from-requires c =
-    let loop-test-taken = c.loop-u-test.true in
-    let loop-inv = c.loop-u.invariant in
-    (record { ground = loop-inv.1; node = loop-test-taken }, loop-inv.2)
+    (record { ground = c.requires.0; node = c.loop-u-test.true }, c.loop-u.invariant.1)
 
 pub among-b-requires : goal.among-b-requires
-among-b-requires c =
-    let loop-test-taken = c.loop-u-test.true in
-    let loop-inv = c.loop-u.invariant in
-    (loop-test-taken, loop-inv.1.grown.some.1)
+among-b-requires c = (c.loop-u-test.true, few (goal.at.among-b-requires c).In-loop-u)
 
 pub offset_bounds-hits-u : goal.offset_bounds-hits-u
-offset_bounds-hits-u c =
-    let loop-test-taken = c.loop-u-test.true in
-    let loop-inv = c.loop-u.invariant in
-    omega (arith, loop-test-taken, loop-inv.1.grown.some.1)
+offset_bounds-hits-u c = omega (arith, few (goal.at.offset_bounds-hits-u c).In-loop-u)
 
 pub bounds-hits-u : goal.bounds-hits-u
-bounds-hits-u c =
-    let loop-test-taken = c.loop-u-test.true in
-    let loop-inv = c.loop-u.invariant in
-    omega (arith, loop-test-taken, loop-inv.1.grown.some.1)
-
-pub overflow_add-u : goal.overflow_add-u
-overflow_add-u c =
-    let loop-test-taken = c.loop-u-test.true in
-    let loop-inv = c.loop-u.invariant in
-    omega (arith, loop-test-taken, loop-inv.1.grown.some.1)
-
-pub loop-u-smaller : goal.loop-u-smaller
-loop-u-smaller c =
-    let loop-test-taken = c.loop-u-test.true in
-    omega (arith, loop-test-taken)
+bounds-hits-u c = omega (arith, few (goal.at.bounds-hits-u c).In-loop-u)
 
 pub loop-u-preserved : goal.loop-u-preserved
 loop-u-preserved c =
-    let paths-from-ensures = c.paths_from.ensures in
-    let loop-test-taken = c.loop-u-test.true in
-    let loop-inv = c.loop-u.invariant in
-    let among-ensures = c.among-b.ensures in (
-      λ g. searched_next _ g (loop-inv.0 g) loop-inv.3 loop-test-taken loop-inv.4 loop-inv.1.grown.some.1
-          (paths-from-ensures.0 g.ground) among-ensures,
-      loop-inv.1,
-      paths-from-ensures.1,
-      omega (arith, loop-inv.3),
-      simp length-set loop-inv.4,
+    let inv = c.loop-u.invariant in (
+      λ g. searched_next _ g (inv.0 g) (omega arith) c.loop-u-test.true inv.2 c.requires.0.grown.some.1
+          (c.paths_from.ensures.0 g.ground) c.among-b.ensures,
+      c.paths_from.ensures.1,
+      simp length-set inv.2,
     )
 
 pub returns : goal.returns
 returns c =
-    let loop-inv = c.loop-u.invariant in
-    let loop-test-left = c.loop-u-test.false in
-    (λ g. searched_end _ g (loop-inv.0 g) loop-test-left, loop-inv.2)
+    let inv = c.loop-u.invariant in
+    (λ g. searched_end _ g (inv.0 g) c.loop-u-test.false, inv.1)

@@ -1,9 +1,7 @@
 -- `window::best::best` takes the first nodes in turn. The invariant: the best so far is the best of the pairs whose
 -- first node is `first` or a later one and below u, and of those first nodes each that has a pair of its count is hit.
-use Prim.Native.Nat.{◌-◌, ◌≤◌}
 use mathlib.Core.Path.{◌≡◌}
 use lib.ListN.{length}
-use Rattle.paths.specs.work.Ground.{Ground}
 use Rattle.paths.specs.work.Paths.{ArraysLent}
 use Rattle.window.specs.work.Best.{Stand}
 use Rattle.window.proofs.Scanning.{Searched}
@@ -12,10 +10,5 @@ use Rattle.window.proofs.best.best.Given as goal
 abbrev pub invariant-loop-u : goal.invariant-loop-u
 invariant-loop-u l =
     ((g : Stand l.n l.parent l.order l.place l.ones l.bw l.sums) → Searched l.counts g l.first l.u l.hits l.b)
-    × Ground l.n l.parent l.order l.place l.ones l.bw
     × ArraysLent l.above l.key l.wt
-    × (l.first ≤ l.u)
     × (length l.hits ≡ 4096)
-
-abbrev pub decreases-loop-u : goal.decreases-loop-u
-decreases-loop-u l = l.n - l.u

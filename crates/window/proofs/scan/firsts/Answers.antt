@@ -1,77 +1,54 @@
+use Prim.Native.Nat.{◌≤◌}
 use mathlib.Core.Path.{refl}
 use native.Mathlib.Omega.{arith}
 use Rattle.paths.proofs.Fresh.{fresh}
 use Rattle.pages.proofs.Firsts.{scanning_start}
 use Rattle.window.proofs.Scanning.{taken_next, taken_end}
+use Rattle.window.proofs.scan.firsts.Goals.{In-loop-u}
 use Rattle.window.proofs.scan.firsts.Goals as goal
+
+few : (c : In-loop-u) → c.args.n ≤ 4096
+few c = c.requires.0.keys.grown.some.1
 
 pub loop-u-init : goal.loop-u-init
 loop-u-init c =
-    let pre = c.requires in (
+    let lent = c.requires.1 in (
       scanning_start refl,
-      pre.0,
       record {
-        keys = pre.1;
-        lengths = record { flags = pre.1.flags; lengths = fresh.lengths; weights = pre.1.weights };
+        keys = lent;
+        lengths = record { flags = lent.flags; lengths = fresh.lengths; weights = lent.weights };
       },
-      pre.2,
     )
 
 pub offset_bounds-hits-u : goal.offset_bounds-hits-u
-offset_bounds-hits-u c =
-    let loop-test-taken = c.loop-u-test.true in
-    let loop-inv = c.loop-u.invariant in
-    omega (arith, loop-test-taken, loop-inv.1.keys.grown.some.1)
+offset_bounds-hits-u c = omega (arith, few (goal.at.offset_bounds-hits-u c).In-loop-u)
 
 pub bounds-hits-u : goal.bounds-hits-u
-bounds-hits-u c =
-    let loop-test-taken = c.loop-u-test.true in
-    let loop-inv = c.loop-u.invariant in
-    omega (arith, loop-test-taken, loop-inv.1.keys.grown.some.1)
+bounds-hits-u c = omega (arith, few (goal.at.bounds-hits-u c).In-loop-u)
 
 pub rows_of-k-requires : goal.rows_of-k-requires
 rows_of-k-requires c =
-    let loop-test-taken = c.loop-u-test.true in
-    let loop-inv = c.loop-u.invariant in (
-      loop-inv.1,
-      loop-inv.2,
+    let page = c.loop-u.invariant.0 in (
+      c.requires.0,
+      c.loop-u.invariant.1,
       record {
-        low = omega (arith, loop-inv.0.same, loop-inv.0.room_low);
-        high = omega (arith, loop-inv.0.same, loop-inv.0.room_high);
-        node = loop-test-taken;
-        few = loop-inv.0.few;
+        low = omega (arith, page.same, page.room_low);
+        high = omega (arith, page.same, page.room_high);
+        node = c.loop-u-test.true;
+        few = page.few;
       },
     )
 
-pub overflow_add-u : goal.overflow_add-u
-overflow_add-u c =
-    let loop-test-taken = c.loop-u-test.true in
-    let loop-inv = c.loop-u.invariant in
-    omega (arith, loop-test-taken, loop-inv.1.keys.grown.some.1)
-
-pub loop-u-smaller : goal.loop-u-smaller
-loop-u-smaller c =
-    let loop-test-taken = c.loop-u-test.true in
-    omega (arith, loop-test-taken)
-
 pub loop-u-preserved : goal.loop-u-preserved
 loop-u-preserved c =
-    let rows-of-ensures = c.rows_of-k.ensures in
-    let loop-test-taken = c.loop-u-test.true in
-    let loop-inv = c.loop-u.invariant in
-    let args = c.args in (
-      taken_next loop-inv.0 args.hits.now loop-test-taken loop-inv.1.keys.grown.some.1 loop-inv.3 refl
-          rows-of-ensures.0,
-      loop-inv.1,
-      rows-of-ensures.1,
-      loop-inv.3,
+    let rows = c.rows_of-k.ensures in (
+      taken_next c.loop-u.invariant.0 c.args.hits.now c.loop-u-test.true c.requires.0.keys.grown.some.1 c.requires.2
+          refl rows.0,
+      rows.1,
     )
 
 pub shape_of-rows : goal.shape_of-rows
 shape_of-rows c = c.loop-u.invariant.0.same
 
 pub returns : goal.returns
-returns c =
-    let loop-inv = c.loop-u.invariant in
-    let loop-test-left = c.loop-u-test.false in
-    λ g. taken_end loop-inv.0 loop-test-left g
+returns c = λ g. taken_end c.loop-u.invariant.0 c.loop-u-test.false g
