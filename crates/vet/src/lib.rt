@@ -114,10 +114,7 @@ fn verdict(
     let n = arrays::wide(nodes);
     spots_of(parent, order, place, &mut bl, &mut bw, n, half);
     let most = arrays::long(bound);
-    let limit = Limit {
-        most: most,
-        exact: false,
-    };
+    let limit = Limit { most, exact: false };
     let sums = Sums {
         floor: pages::raised(floor),
         end: SUM_END,

@@ -92,11 +92,11 @@ module _ {n : ℕ} {spot above tail front gap far heavy : List ℕ} {limit : Lim
           → (t.entry.length ≡ l) × (t.belongs.lift ≡ x) × (t.entry.weight ≡ lower x)
       own f = meant_is t.entry t.belongs (figures_named says_low says_high f)
 
-    pub foreign_order : high_of s i ≤ low_of s i → Decides (Belongs (Meant spot above far heavy n limit sums) s i) false
-    foreign_order h = decides_false (λ t. omega (arith, says_low t, says_high t, t.belongs.pair))
-
-    pub foreign_node : n ≤ high_of s i → Decides (Belongs (Meant spot above far heavy n limit sums) s i) false
-    foreign_node h = decides_false (λ t. omega (arith, says_high t, t.belongs.node))
+    pub foreign_pair : (low_of s i < high_of s i → high_of s i < n → ⊥)
+        → Decides (Belongs (Meant spot above far heavy n limit sums) s i) false
+    foreign_pair h =
+        decides_false (λ t. h (omega (arith, says_low t, says_high t, t.belongs.pair))
+        (omega (arith, says_high t, t.belongs.node)))
 
     module _ {l x : ℕ} (f : Figures spot above far heavy (low_of s i) (high_of s i) l x) where
       pub foreign_length : u32_at s (16 * i + 4) ≢ l

@@ -13,8 +13,6 @@ use lib.Seq.{get_or-set_same, get_or-set_other}
 use Rattle.arrays.specs.At.{at}
 use Rattle.arrays.specs.work.Filled.{Filled}
 use native.Mathlib.Decide.{dec_lt, ℕ_discrete}
-use Rattle.limits.specs.work.Fits.{Decides}
-use Rattle.limits.proofs.Tests.{decides_true, decides_false}
 use Rattle.vetting.specs.work.Bits.{bit, Has, PutIn}
 
 bit_two : (k w : ℕ) → bit k w < 2
@@ -103,12 +101,6 @@ put_in bits p r {x} l b e n w = record {
     lost : (j : ℕ) → j ≢ p → Has (set bits (p / 64) r) j → Dec (j / 64 ≡ p / 64) → Has bits j
     lost j m h (no o) = record { set = sym (ap (bit (j % 64)) (get_or-set_other bits (p / 64) (j / 64) r 0 o)) ∙ h.set }
     lost j m h (yes o) = record { set = rw o (sym (w.1 (j % 64) (λ d. m (omega arith))) ∙ (rw (o, same) at h.set)) }
-
-pub has_yes : {bits : List ℕ} {p x : ℕ} → x ≡ bit (p % 64) (at bits (p / 64)) → x ≡ 1 → Decides (Has bits p) true
-has_yes e h = decides_true (record { set = sym e ∙ h })
-
-pub has_no : {bits : List ℕ} {p x : ℕ} → x ≡ bit (p % 64) (at bits (p / 64)) → x ≢ 1 → Decides (Has bits p) false
-has_no e n = decides_false (λ h. n (e ∙ h.set))
 
 -- an empty set has none
 bit_none : (k : ℕ) → bit k 0 ≡ 0

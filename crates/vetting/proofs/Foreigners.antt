@@ -28,5 +28,6 @@ module _ {P : Entry → Type 0} {s : List ℕ} {m i : ℕ} (A : AllBelong P s m 
   pub rows_found : {r : Bool} → r ≡ false → Decides (Belongs P s i) r → FirstForeign P s m i
   rows_found e d = record { within = A.within; belong = A.belong; foreign = λ h. d.fails e }
 
-  pub rows_end : m ≤ i → FirstForeign P s m i
-  rows_end h = record { within = A.within; belong = A.belong; foreign = λ l. absurd (omega arith) }
+  pub rows_end : m ≤ i → FirstForeign P s m m
+  rows_end h =
+      record { within = omega arith; belong = λ j l. A.belong j (omega arith); foreign = λ l. absurd (omega arith) }

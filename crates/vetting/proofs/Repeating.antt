@@ -128,5 +128,7 @@ module _ {s : List ℕ} {n from end r i : ℕ} {bits : List ℕ} (N : NamePairs 
         pick (no k) = absurd (true≢false (sym (admitted.outside k).0 ∙ e))
 
 pub passing_end : {s : List ℕ} {n from end r i : ℕ} {bits : List ℕ} → i ≤ r → r ≤ i → Unrepeated s n from end i bits
-    → Repeats s n from end r i bits
-passing_end h k U = record { within = h; seen = U; again = λ l. absurd (omega arith) }
+    → Repeats s n from end r r bits
+passing_end {r = r} {i = i} h k U =
+    let e : i ≡ r = omega arith in
+    record { within = omega arith; seen = rw e at U; again = λ l. absurd (omega arith) }

@@ -32,10 +32,7 @@ pub(crate) fn has(bits: &[u64; 16384], p: usize) -> bool
     requires { p < 1048576 }
     ensures { Decides (Has bits.now p) result }
 {
-    if bit_of(bits[p / 64], (p % 64) as u64) == 1 {
-        return true;
-    }
-    false
+    bit_of(bits[p / 64], (p % 64) as u64) == 1
 }
 
 // Puts p in; false where it was in before.

@@ -41,8 +41,7 @@ fn is_lacking(
     ensures { LackTold (Meant spot.now above.now far.now heavy.now n
         limit sums) (InSet n from bits.now) a b result }
 {
-    let p = slot(t, a, b, n, from);
-    if has(bits, p) {
+    if has(bits, slot(t, a, b, n, from)) {
         return false;
     }
     let v = figure(spot, above, tail, front, gap, far, heavy, n, a, b);
@@ -71,14 +70,12 @@ fn first_high(
     ensures { FirstHigh (Meant spot.now above.now far.now heavy.now n
         limit sums) (InSet n from bits.now) n a result }
 {
-    let mut b = a + 1;
-    while b < n {
+    for b in a + 1..n {
         if is_lacking(
             bits, t, a, b, from, spot, above, tail, front, gap, far, heavy, n, limit, sums,
         ) {
             return b;
         }
-        b += 1;
     }
     n
 }
@@ -107,10 +104,7 @@ fn block_high(
         limit sums) (InSet n from bits.now) n from end a result }
 {
     let t = line_of(a, n);
-    if t < from {
-        return n;
-    }
-    if end <= t {
+    if t < from || end <= t {
         return n;
     }
     first_high(

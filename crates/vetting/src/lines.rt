@@ -9,10 +9,7 @@ pub(crate) fn line_of(a: usize, n: usize) -> usize
     requires { (a < n) × (n ≤ 4096) }
     ensures { Line n a result }
 {
-    if 2 * a < n {
-        return a;
-    }
-    n - 1 - a
+    if 2 * a < n { a } else { n - 1 - a }
 }
 
 // The column of b beside it.
@@ -20,10 +17,7 @@ fn column_of(a: usize, b: usize, n: usize) -> usize
     requires { (a < b) × (b < n) × (n ≤ 4096) }
     ensures { Column n a b result }
 {
-    if 2 * a < n {
-        return b;
-    }
-    n - 1 - b
+    if 2 * a < n { b } else { n - 1 - b }
 }
 
 // The bit of the pair a, b, whose line t is one of the block's.
@@ -31,8 +25,7 @@ pub(crate) fn slot(t: usize, a: usize, b: usize, n: usize, from: usize) -> usize
     requires { SlotAsked n from t a b }
     ensures { Slot n from a b result × (result < 1048576) }
 {
-    let c = column_of(a, b, n);
-    n * (t - from) + c
+    n * (t - from) + column_of(a, b, n)
 }
 
 // Puts the pair a, b in, where it is one of the block's; false where it was in before.
@@ -48,12 +41,8 @@ pub(crate) fn admit(
     ensures { Admitted n from end a b bits.old result bits.new }
 {
     let t = line_of(a, n);
-    if t < from {
+    if t < from || end <= t {
         return true;
     }
-    if end <= t {
-        return true;
-    }
-    let p = slot(t, a, b, n, from);
-    put(bits, p)
+    put(bits, slot(t, a, b, n, from))
 }

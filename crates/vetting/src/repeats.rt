@@ -19,14 +19,12 @@ pub(crate) fn first_repeat(
     ensures { Repeats list.now n from end r result bits.new }
 {
     clear(bits);
-    let mut i: usize = 0;
-    while i < r {
+    for i in 0..r {
         let a = two(list, 16 * i) as usize;
         let b = two(list, 16 * i + 2) as usize;
         if !admit(bits, a, b, n, from, end) {
             return i;
         }
-        i += 1;
     }
-    i
+    r
 }

@@ -32,20 +32,13 @@ fn belongs(
     let p = 16 * i;
     let a = two(list, p) as usize;
     let b = two(list, p + 2) as usize;
-    if b <= a {
-        return false;
-    }
-    if n <= b {
+    if b <= a || n <= b {
         return false;
     }
     let v = figure(spot, above, tail, front, gap, far, heavy, n, a, b);
-    if four(list, p + 4) != v.length {
-        return false;
-    }
-    if eight(list, p + 8) != bits(v.weight) {
-        return false;
-    }
-    passes(v.length, v.weight, limit, sums)
+    four(list, p + 4) == v.length
+        && eight(list, p + 8) == bits(v.weight)
+        && passes(v.length, v.weight, limit, sums)
 }
 
 // Of m rows the first that does not belong; m where all do.
@@ -68,14 +61,12 @@ pub(crate) fn first_foreign(
     ensures { FirstForeign (Meant spot.now above.now far.now
         heavy.now n limit sums) list.now m result }
 {
-    let mut i: usize = 0;
-    while i < m {
+    for i in 0..m {
         if !belongs(
             list, i, spot, above, tail, front, gap, far, heavy, n, limit, sums,
         ) {
             return i;
         }
-        i += 1;
     }
-    i
+    m
 }

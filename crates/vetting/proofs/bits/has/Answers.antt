@@ -1,9 +1,11 @@
 -- `has`: the bit of a number is in the word of its 64, at its place there.
-use Rattle.vetting.proofs.BitLaws.{has_yes, has_no}
+use mathlib.Core.Path.{sym, ◌∙◌}
+use borrow.Author.Tests.{eqb-true, eqb-false}
 use Rattle.vetting.proofs.bits.has.Goals as goal
 
-pub returns-then-bit_of-eq1 : goal.returns-then-bit_of-eq1
-returns-then-bit_of-eq1 c = has_yes c.bit_of.ensures c.if-bit_of-eq1.true
-
 pub returns : goal.returns
-returns c = has_no c.bit_of.ensures c.if-bit_of-eq1.false
+returns c =
+    record {
+      holds = λ t. record { set = sym c.bit_of.ensures ∙ eqb-true c.bit_of.result 1 t };
+      fails = λ t h. eqb-false c.bit_of.result 1 t (c.bit_of.ensures ∙ h.set);
+    }

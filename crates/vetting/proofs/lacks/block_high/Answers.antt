@@ -8,10 +8,7 @@ pub line_of-t-requires : goal.line_of-t-requires
 line_of-t-requires c = (c.requires.2, c.requires.1.nodes)
 
 pub returns-then-t-from : goal.returns-then-t-from
-returns-then-t-from c = high_none c.line_of-t.ensures (λ h k. omega (arith, c.if-t-from.true))
-
-pub returns-then-end-t : goal.returns-then-end-t
-returns-then-end-t c = high_none c.line_of-t.ensures (λ h k. omega (arith, c.if-end-t.true))
+returns-then-t-from c = high_none c.line_of-t.ensures (λ h k. omega (arith, c.then-t-from.either))
 
 pub first_high-requires : goal.first_high-requires
 first_high-requires c =

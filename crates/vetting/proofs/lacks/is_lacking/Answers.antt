@@ -3,16 +3,16 @@ use Rattle.vetting.proofs.Belonging.{figures_asked}
 use Rattle.vetting.proofs.Lacking.{told_there, told_by}
 use Rattle.vetting.proofs.lacks.is_lacking.Goals as goal
 
-pub slot-p-requires : goal.slot-p-requires
-slot-p-requires c = c.requires.1
+pub slot-requires : goal.slot-requires
+slot-requires c = c.requires.1
 
 pub has-requires : goal.has-requires
-has-requires c = c.slot-p.ensures.1
+has-requires c = c.slot.ensures.1
 
 pub returns-then-has : goal.returns-then-has
 returns-then-has c =
     let pre = c.requires in
-    told_there _ pre.0 c.slot-p.ensures.0 c.has.ensures c.if-has.true
+    told_there _ pre.0 c.slot.ensures.0 c.has.ensures c.if-has.true
 
 pub figure-v-requires : goal.figure-v-requires
 figure-v-requires c =
@@ -23,7 +23,7 @@ figure-v-requires c =
 pub returns : goal.returns
 returns c =
     let has-ensures = c.has.ensures in
-    let slot-ensures = c.slot-p.ensures in
+    let slot-ensures = c.slot.ensures in
     let asked = c.requires in
     told_by _ asked.0 slot-ensures.0 has-ensures asked.1.pair asked.1.node
     c.figure-v.ensures.0 c.if-has.false c.passes.ensures

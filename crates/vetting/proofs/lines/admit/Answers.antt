@@ -4,13 +4,10 @@ use Rattle.vetting.proofs.LineLaws.{block_line, admitted_none, admitted_one}
 use Rattle.vetting.proofs.lines.admit.Goals as goal
 
 pub returns-then-t-from : goal.returns-then-t-from
-returns-then-t-from c = admitted_none c.line_of-t.ensures (λ h k. omega (arith, c.if-t-from.true))
+returns-then-t-from c = admitted_none c.line_of-t.ensures (λ h k. omega (arith, c.then-t-from.either))
 
-pub returns-then-end-t : goal.returns-then-end-t
-returns-then-end-t c = admitted_none c.line_of-t.ensures (λ h k. omega (arith, c.if-end-t.true))
-
-pub slot-p-requires : goal.slot-p-requires
-slot-p-requires c =
+pub slot-requires : goal.slot-requires
+slot-requires c =
     let pre = c.requires in
     let line-of-ensures = c.line_of-t.ensures in
     record {
@@ -26,4 +23,4 @@ returns c =
     let if1-left = c.if-t-from.false in
     let line-of-ensures = c.line_of-t.ensures in
     admitted_one line-of-ensures (omega (arith, if1-left)) (omega (arith, if2-left))
-    c.slot-p.ensures.0 c.put.ensures
+    c.slot.ensures.0 c.put.ensures

@@ -6,17 +6,13 @@ pub loop-i-init : goal.loop-i-init
 loop-i-init c = rows_start
 
 pub belongs-requires : goal.belongs-requires
-belongs-requires c =
-    let pre = c.requires in
-    (pre.0, omega (arith, pre.1, c.loop-i-test.true))
+belongs-requires c = (c.requires.0, omega (arith, c.requires.1, c.loop-i-test.true))
 
 pub returns-then-not-belongs : goal.returns-then-not-belongs
 returns-then-not-belongs c = rows_found c.loop-i.invariant c.if-not-belongs.true c.belongs.ensures
 
 pub loop-i-preserved : goal.loop-i-preserved
-loop-i-preserved c =
-    let loop-inv = c.loop-i.invariant in
-    rows_next loop-inv c.loop-i-test.true c.if-not-belongs.false c.belongs.ensures
+loop-i-preserved c = rows_next c.loop-i.invariant c.loop-i-test.true c.if-not-belongs.false c.belongs.ensures
 
 pub returns : goal.returns
 returns c = rows_end c.loop-i.invariant (omega (arith, c.loop-i-test.false))
