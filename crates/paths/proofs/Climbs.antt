@@ -21,17 +21,6 @@ abbrev pub climbable : {n a : ℕ} {parent order place bl bw : List ℕ} → Gro
     → Climbable n a parent place bl bw
 climbable {order} g b = record { order = order; ground = g; node = b }
 
--- one flag more is not set
-pub cleared_more : {i : ℕ} {above : List ℕ} → i < 4096 → Cleared i above → Cleared (i + 1) (set above i 0)
-cleared_more {i} {above} b c = record { long = length-set above i 0 ∙ c.long; each = λ t h. pick t h (ℕ_discrete t i) }
-  where
-    pick : (t : ℕ) → t < i + 1 → Dec (t ≡ i) → at (set above i 0) t ≡ 0
-    pick t h (yes e) = rw e (get_or-set_same above i 0 0 (omega (arith, c.long)))
-    pick t h (no d) = get_or-set_other above i t 0 0 d ∙ c.each t (omega arith)
-
-pub cleared_end : {n i : ℕ} {above : List ℕ} → n ≤ i → Cleared i above → Cleared n above
-cleared_end b c = record { long = c.long; each = λ t h. c.each t (omega arith) }
-
 pub climbing_start : {n a : ℕ} {parent place bl bw above : List ℕ} → Cleared n above
     → Climbing n a parent place bl bw a 0 8589934592 above
 climbing_start {n} {a} f = record {

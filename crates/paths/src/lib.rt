@@ -23,11 +23,7 @@ fn clear(above: &mut [u16; 4096], n: usize)
     requires { (n ≤ 4096) × (length above.old ≡ 4096) }
     ensures { Cleared n above.new }
 {
-    let mut i: usize = 0;
-    while i < n {
-        above[i] = 0;
-        i += 1;
-    }
+    above[..n].fill(0);
 }
 
 // The path from a to node 0. Marks the nodes on it: a and those above it.
@@ -47,38 +43,37 @@ fn climb(
 {
     clear(above, n);
     let mut x = a;
-    let mut l: u64 = 0;
-    let mut w: u64 = table::SUM_LIFT;
+    let mut length: u64 = 0;
+    let mut weight: u64 = table::SUM_LIFT;
     while x != 0 {
         above[x] = 1;
-        l = l + bl[x];
-        w = w + bw[x] - ROW_LIFT;
+        length += bl[x];
+        weight = weight + bw[x] - ROW_LIFT;
         x = arrays::wide(parent[x]);
     }
-    Far {
-        length: l,
-        weight: w,
-    }
+    Far { length, weight }
 }
 
-// A branch nearer where the flag is 1, a branch further otherwise.
+// A branch nearer where the flag is 1, a branch further otherwise. A flag is a number, and no bool: the array of flags
+// that the caller of paths_from lends is one of 16-bit words.
 fn step(flag: u16, l: u64, w: u64, f: u64, y: u64) -> Far
     requires { Steps flag l w f y }
     ensures { StepMade flag l w f y result.length result.weight }
 {
     if flag == 1 {
-        return Far {
+        Far {
             length: l - f,
             weight: w + ROW_LIFT - y,
-        };
-    }
-    Far {
-        length: l + f,
-        weight: w + y - ROW_LIFT,
+        }
+    } else {
+        Far {
+            length: l + f,
+            weight: w + y - ROW_LIFT,
+        }
     }
 }
 
-// Each node in turn from its parent, beginning with node 0 at l and w.
+// Each node in turn from its parent, beginning with node 0 at `top`.
 fn sweep(
     parent: &[u16; 4096],
     order: &[u16; 4096],
@@ -87,31 +82,24 @@ fn sweep(
     above: &[u16; 4096],
     n: usize,
     a: usize,
-    l: u64,
-    w: u64,
+    top: Far,
     len: &mut [u64; 4096],
     wt: &mut [u64; 4096],
 )
-    requires { Sweepable n a l w parent.now order.now bl.now bw.now above.now
+    requires { Sweepable n a top.length top.weight parent.now order.now bl.now bw.now above.now
         × (length len.old ≡ 4096)
         × (length wt.old ≡ 4096) }
-    ensures { Sweeping n a l w parent.now order.now bl.now bw.now
+    ensures { Sweeping n a top.length top.weight parent.now order.now bl.now bw.now
         above.now n len.new wt.new }
 {
-    len[0] = l;
-    wt[0] = w;
-    let mut i: usize = 1;
-    while i < n {
+    len[0] = top.length;
+    wt[0] = top.weight;
+    for i in 1..n {
         let x = arrays::wide(order[i]);
         let p = arrays::wide(parent[x]);
-        let f = bl[x];
-        let y = bw[x];
-        let r = step(above[x], len[p], wt[p], f, y);
-        let lx = r.length;
-        let wx = r.weight;
-        len[x] = lx;
-        wt[x] = wx;
-        i += 1;
+        let far = step(above[x], len[p], wt[p], bl[x], bw[x]);
+        len[x] = far.length;
+        wt[x] = far.weight;
     }
 }
 
@@ -135,8 +123,6 @@ pub fn paths_from(
         → Paths g a len.new wt.new)
         × ArraysLent above.new len.new wt.new }
 {
-    let r = climb(parent, place, bl, bw, n, a, above);
-    let l = r.length;
-    let w = r.weight;
-    sweep(parent, order, bl, bw, above, n, a, l, w, len, wt);
+    let top = climb(parent, place, bl, bw, n, a, above);
+    sweep(parent, order, bl, bw, above, n, a, top, len, wt);
 }

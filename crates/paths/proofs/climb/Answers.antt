@@ -7,10 +7,10 @@ use Rattle.paths.proofs.climb.Goals.{In-loop-x}
 use Rattle.paths.proofs.climb.Goals as goal
 
 sums_fit : (c : In-loop-x)
-    → (c.loop-x.l ≤ 4096000000)
+    → (c.loop-x.length ≤ 4096000000)
     × (at c.args.bl.now c.loop-x.x ≤ 1000000)
-    × (1000000 ≤ c.loop-x.w)
-    × (c.loop-x.w ≤ 17179869184)
+    × (1000000 ≤ c.loop-x.weight)
+    × (c.loop-x.weight ≤ 17179869184)
     × (at c.args.bw.now c.loop-x.x ≤ 2000000)
 sums_fit c = climb_fits c.loop-x.invariant.0 c.loop-x.invariant.1 c.loop-x-test.true
 
@@ -23,14 +23,14 @@ loop-x-init c =
     let h = climbing_start c.clear.ensures in
     (h, pre.0, climb_node h pre.0)
 
-pub overflow_add-l : goal.overflow_add-l
-overflow_add-l c = let h = sums_fit (goal.at.overflow_add-l c).In-loop-x in omega (arith, h.0, h.1)
+pub overflow_add-length : goal.overflow_add-length
+overflow_add-length c = let h = sums_fit (goal.at.overflow_add-length c).In-loop-x in omega (arith, h.0, h.1)
 
-pub overflow_add-w : goal.overflow_add-w
-overflow_add-w c = let h = sums_fit (goal.at.overflow_add-w c).In-loop-x in omega (arith, h.3, h.4)
+pub overflow_add-weight : goal.overflow_add-weight
+overflow_add-weight c = let h = sums_fit (goal.at.overflow_add-weight c).In-loop-x in omega (arith, h.3, h.4)
 
-pub overflow_sub-w : goal.overflow_sub-w
-overflow_sub-w c = let h = sums_fit (goal.at.overflow_sub-w c).In-loop-x in omega (arith, h.2)
+pub overflow_sub-weight : goal.overflow_sub-weight
+overflow_sub-weight c = let h = sums_fit (goal.at.overflow_sub-weight c).In-loop-x in omega (arith, h.2)
 
 pub loop-x-smaller : goal.loop-x-smaller
 loop-x-smaller c =

@@ -3,12 +3,12 @@ use Rattle.paths.proofs.Climbs.{climbable}
 use Rattle.paths.proofs.Sweeps.{sweeping_paths}
 use Rattle.paths.proofs.paths_from.Goals as goal
 
-pub climb-r-requires : goal.climb-r-requires
-climb-r-requires c = (climbable c.requires.0.ground c.requires.0.node, c.requires.1.flags)
+pub climb-top-requires : goal.climb-top-requires
+climb-top-requires c = (climbable c.requires.0.ground c.requires.0.node, c.requires.1.flags)
 
 pub sweep-requires : goal.sweep-requires
 sweep-requires c =
-    let climb-ensures = c.climb-r.ensures in
+    let climb-ensures = c.climb-top.ensures in
     let pre = c.requires in (
       record {
         place = _;
@@ -22,7 +22,7 @@ sweep-requires c =
 
 pub returns : goal.returns
 returns c =
-    let climb-ensures = c.climb-r.ensures in
+    let climb-ensures = c.climb-top.ensures in
     let pre = c.requires in (
       λ g. sweeping_paths c.sweep.ensures
           (record {

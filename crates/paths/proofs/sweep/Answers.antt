@@ -58,8 +58,8 @@ offset_bounds-wt-p c = omega (arith, parent_in (goal.at.offset_bounds-wt-p c).Af
 pub bounds-wt-p : goal.bounds-wt-p
 bounds-wt-p c = omega (arith, parent_in (goal.at.bounds-wt-p c).After-wide-p)
 
-pub step-r-requires : goal.step-r-requires
-step-r-requires c =
+pub step-far-requires : goal.step-far-requires
+step-far-requires c =
     let wide2 = c.wide-p in
     let wide = c.wide-x in
     let loop-test = c.loop-i-test in
@@ -86,7 +86,7 @@ loop-i-preserved c =
     let loop-test = c.loop-i-test in
     let loop = c.loop-i in (
       sweeping_step loop.invariant.0 loop.invariant.2 loop-test.true wide.result wide2.result _ _
-          wide.ensures.0 wide2.ensures.0 refl refl _ _ c.step-r.ensures,
+          wide.ensures.0 wide2.ensures.0 refl refl _ _ c.step-far.ensures,
       loop.invariant.1,
       omega arith,
     )
