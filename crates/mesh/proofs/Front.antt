@@ -1,7 +1,7 @@
 -- The front of the operation: what the header's test gives for the answer's promise, that the rows it counts stand in
 -- the table, and what the test of the rows, each by itself and then pair by pair, gives.
 use Prim.Native.Nat.{ℕ, ◌+◌, ◌*◌, ◌≤◌, ◌<◌}
-use mathlib.Core.Path.{◌≡◌, refl, ap, ◌∙◌}
+use mathlib.Core.Path.{◌≡◌, refl}
 use mathlib.Core.Logic.{◌≢◌}
 use mathlib.Core.List.{List}
 use native.Mathlib.Omega.{arith}
@@ -16,7 +16,9 @@ use Rattle.net.specs.Net.{first_end, second_end}
 use Rattle.mesh.specs.Table.{rows_of, MeshHeader, MeshRows}
 use Rattle.mesh.specs.Answer.{mesh_refusal, MeshJoined, Answered, MeshOf}
 use Rattle.mesh.specs.declared.MeshAnswer.{MeshAnswer}
-use Rattle.mesh.specs.work.Head.{MeshHead, bad_head, good_head, HeadTold}
+use Rattle.mesh.specs.work.Head.{good_head, HeadTold}
+use Rattle.mesh.specs.declared.header.Head.{Head}
+use Rattle.std.specs.Prelude.{Result, Ok, Err}
 use Rattle.mesh.specs.work.Rows.{EndsApart, MeshReadable, FirstBadRow}
 use Rattle.mesh.specs.work.Repeat.{FirstRepeat}
 use Rattle.mesh.specs.work.Bands.{NoRepeat}
@@ -72,14 +74,20 @@ header_map f refuse s g p =
     (λ a. unless_map f (λ b. unless_map f (λ c. unless_map f (λ d. unless_map f (λ e. unless_map f (λ h. g))))))
     p
 
--- as the header's test tells it
-module _ (s : List ℕ) {h : MeshHead} where
-  pub head_refused : {rest : MeshAnswer → Type 0} → HeadTold s h → h.number ≢ 0
-      → MeshHeader MeshAnswer mesh_refusal s rest (mesh_refusal h.number 0)
-  head_refused p n = header_map (λ y. mesh_refusal y.number 0) bad_head s (λ e. absurd (n (ap (λ y. y.number) e))) p
+-- the answer that a header's refusal becomes
+head_answer : Result Head ℕ → MeshAnswer
+head_answer (Err k) = mesh_refusal k 0
+head_answer (Ok h) = mesh_refusal 0 0
 
-  pub head_good : HeadTold s h → h.number ≡ 0 → Headed s × (h ≡ good_head (nodes_of s) (rows_of s))
-  head_good p e = header_past bad_head (λ k n q. n (ap (λ y. y.number) q ∙ e)) p
+-- as the header's test tells it
+module _ (s : List ℕ) where
+  pub head_refused : {k : ℕ} {rest : MeshAnswer → Type 0} → HeadTold s (Err k)
+      → MeshHeader MeshAnswer mesh_refusal s rest (mesh_refusal k 0)
+  unfolding head_answer
+  head_refused p = header_map head_answer (λ k r. Err k) s (λ e. cc e) p
+
+  pub head_good : {h : Head} → HeadTold s (Ok h) → Headed s × (h ≡ good_head (nodes_of s) (rows_of s))
+  head_good p = let t = header_past (λ k r. Err k) (λ k n q. cc q) p in (t.0, cc t.1)
 
 -- what follows is told of n and the number of rows as they were read
 pub head_passed : {s : List ℕ} {n k : ℕ} {x : MeshAnswer} → Headed s → n ≡ nodes_of s → k ≡ rows_of s
@@ -102,30 +110,24 @@ good_rows s n k g = record {
   apart = λ r l. row_apart n s r (g r l);
 }
 
-module _ {s : List ℕ} {n k number row : ℕ} (t : FirstBadRow s n k number row) where
-  pub row_refused : {rest : MeshAnswer → Type 0} → number ≢ 0
+module _ (s : List ℕ) {n k : ℕ} where
+  pub row_refused : {number row : ℕ} {rest : MeshAnswer → Type 0} → FirstBadRow s n k number row
       → MeshRows MeshAnswer mesh_refusal s n k rest (mesh_refusal number row)
-  row_refused m = let h = t.here m in bad row number h.0 t.before h.1 m
+  row_refused {number} {row} t = bad row number t.within t.before t.here t.bad
 
-  all_good : number ≡ 0 → (i : ℕ) → i < k → RowNumber n s i 0
-  all_good e i l = t.before i (omega (arith, t.good e))
+  module _ (good : (i : ℕ) → i < k → RowNumber n s i 0) where
+    pub rows_passed : {rest : MeshAnswer → Type 0} {x : MeshAnswer} → rest x
+        → MeshRows MeshAnswer mesh_refusal s n k rest x
+    rows_passed p = fine good p
 
-  pub rows_passed : {rest : MeshAnswer → Type 0} {x : MeshAnswer} → number ≡ 0 → rest x
-      → MeshRows MeshAnswer mesh_refusal s n k rest x
-  rows_passed e p = fine (all_good e) p
+    -- fit to be read
+    pub rows_readable : ((r : ℕ) → r < k → Stands s r) → n ≤ 256 → MeshReadable s k n
+    rows_readable h f = record { stands = h; rows = good_rows s n k good; few = f }
 
-  -- fit to be read
-  pub rows_readable : number ≡ 0 → ((r : ℕ) → r < k → Stands s r) → n ≤ 256 → MeshReadable s k n
-  rows_readable e h f = record { stands = h; rows = good_rows s n k (all_good e); few = f }
+module _ {u v : ℕ → ℕ} {k : ℕ} where
+  pub repeat_refused : {n r : ℕ} → FirstRepeat u v k r → Answered u v k n (mesh_refusal 36 r)
+  repeat_refused {r = r} f =
+      bad r 36 f.within (λ i h. passed (f.before i h) refl) (refused (λ m. m f.here)) (λ e. omega arith)
 
-module _ {u v : ℕ → ℕ} {k r : ℕ} (f : FirstRepeat u v k r) where
-  pub repeat_refused : {n : ℕ} → r < k → Answered u v k n (mesh_refusal 36 r)
-  repeat_refused l =
-      bad r 36 l (λ i h. passed (f.before i h) refl) (refused (λ m. m (f.here l))) (λ e. omega arith)
-
-  -- no pair comes again
-  pub no_repeat : ¬ (r < k) → NoRepeat u v k
-  no_repeat m i h = f.before i (omega (arith, f.within))
-
-  pub repeat_passed : {n : ℕ} {x : MeshAnswer} → ¬ (r < k) → MeshJoined u v k n x → Answered u v k n x
-  repeat_passed m j = fine (λ i h. passed (no_repeat m i h) refl) j
+  pub repeat_passed : {n : ℕ} {x : MeshAnswer} → NoRepeat u v k → MeshJoined u v k n x → Answered u v k n x
+  repeat_passed new j = fine (λ i h. passed (new i h) refl) j

@@ -17,7 +17,7 @@ use Rattle.net.proofs.Counts.{upto, upto_length, upto_in, Without, without}
 use Rattle.mesh.proofs.Pigeon.{pigeon}
 use Rattle.mesh.specs.work.Rows.{EndsApart}
 use Rattle.mesh.specs.Mesh.{Connected}
-use Rattle.mesh.specs.work.Hung.{RootAlone, OneTaken, Alike, Leads, FirstUnhung, HungAt}
+use Rattle.mesh.specs.work.Hung.{RootAlone, OneTaken, Alike, Closed, Leads, HungAt}
 
 -- some row joins them
 abbrev pub SomeRow : (ℕ → ℕ) → (ℕ → ℕ) → ℕ → ℕ → ℕ → Type 0
@@ -202,33 +202,33 @@ module _ {u v : ℕ → ℕ} {k n a : ℕ} where
             record { fits = rw pp f.fits; earlier = rw (pp, pd, px) f.earlier; joins = rw pp f.joins }
 
 -- the loop of `spread`: r is the next row that leads on
-pub record Spreading (u v : ℕ → ℕ) (k n m r : ℕ) (par order place : List ℕ) : Type 0 where
+pub record Spreading (u v : ℕ → ℕ) (k n m : ℕ) (par order place : List ℕ) : Type 0 where
   pub rows : EndsApart u v k n
   pub grown : HungSoFar u v k n 0 m par order place
-  pub next : Leads u v k place r
 
-module _ {u v : ℕ → ℕ} {k n m r : ℕ} {par order place : List ℕ} (s : Spreading u v k n m r par order place) where
+module _ {u v : ℕ → ℕ} {k n m r : ℕ} {par order place : List ℕ} (s : Spreading u v k n m par order place)
+    (next : Leads u v k place r) where
   -- which end is new
-  first_new : r < k → at place (u r) ≡ 256 → Ready u v k n 0 m par order place (u r) (v r)
-  first_new l e =
+  first_new : at place (u r) ≡ 256 → Ready u v k n 0 m par order place (u r) (v r)
+  first_new e =
       record {
         grown = s.grown;
-        joins = (r, l, inl (refl, refl));
-        new = (s.rows.first r l, e);
-        old = (s.rows.second r l, pick (s.next.here l));
+        joins = (r, next.within, inl (refl, refl));
+        new = (s.rows.first r next.within, e);
+        old = (s.rows.second r next.within, pick next.here);
       }
     where
       pick : OneTaken (at place (u r)) (at place (v r)) → at place (v r) ≢ 256
       pick (inl t) = t.1
       pick (inr t) = absurd (t.0 e)
 
-  second_new : r < k → at place (u r) ≢ 256 → Ready u v k n 0 m par order place (v r) (u r)
-  second_new l e =
+  second_new : at place (u r) ≢ 256 → Ready u v k n 0 m par order place (v r) (u r)
+  second_new e =
       record {
         grown = s.grown;
-        joins = (r, l, inr (refl, refl));
-        new = (s.rows.second r l, pick (s.next.here l));
-        old = (s.rows.first r l, e);
+        joins = (r, next.within, inr (refl, refl));
+        new = (s.rows.second r next.within, pick next.here);
+        old = (s.rows.first r next.within, e);
       }
     where
       pick : OneTaken (at place (u r)) (at place (v r)) → at place (v r) ≡ 256
@@ -244,21 +244,22 @@ module _ {u v : ℕ → ℕ} {k n m r : ℕ} {par order place : List ℕ} (s : S
         pick (yes z) = omega (arith, h.0 z)
         pick (no z) = omega (arith, h.1 z)
 
-    pub end_new : r < k → Ready u v k n 0 m par order place c (p + q - c)
-    end_new l = pick (ℕ_discrete (at place p) 256)
+    pub end_new : Ready u v k n 0 m par order place c (p + q - c)
+    end_new = pick (ℕ_discrete (at place p) 256)
       where
         pick : Dec (at place p ≡ 256) → Ready u v k n 0 m par order place c (p + q - c)
         pick (yes z) =
             let ec : c ≡ u r = h.0 z ∙ ep in
             let ed : p + q - c ≡ v r = omega arith in
-            rw (ed, ec) (first_new l (rw ep at z))
+            rw (ed, ec) (first_new (rw ep at z))
         pick (no z) =
             let ec : c ≡ v r = h.1 z ∙ eq in
             let ed : p + q - c ≡ u r = omega arith in
-            rw (ed, ec) (second_new l (rw ep at z))
+            rw (ed, ec) (second_new (rw ep at z))
 
-  pub spread_end : ¬ (r < k) → Spread u v k n 0 m par order place
-  spread_end q = record { grown = s.grown; closed = λ i h. s.next.before i (omega arith) }
+pub spread_end : {u v : ℕ → ℕ} {k n m : ℕ} {par order place : List ℕ} → Spreading u v k n m par order place
+    → Closed u v k place → Spread u v k n 0 m par order place
+spread_end s c = record { grown = s.grown; closed = c }
 
 -- what is joined to the root hangs in the tree
 module _ {u v : ℕ → ℕ} {k n a m : ℕ} {par order place : List ℕ} (s : Spread u v k n a m par order place) where
@@ -331,10 +332,9 @@ module _ {u v : ℕ → ℕ} {k n a m : ℕ} {par order place : List ℕ} (g : H
         here = λ y h. let f = g.here y (low h) (all y h) in (omega (arith, f.0, most), f.1);
       }
 
-module _ {u v : ℕ → ℕ} {k n m x : ℕ} {par order place : List ℕ} (s : Spread u v k n 0 m par order place)
-    (q : FirstUnhung place n x) where
-  pub spread_hung : EndsApart u v k n → ¬ (x < n) → HungAt u v k n 0 par order place
-  spread_hung R t = all_hung s.grown R (λ y h. q.before y (omega (arith, q.within)))
+module _ {u v : ℕ → ℕ} {k n m : ℕ} {par order place : List ℕ} (s : Spread u v k n 0 m par order place) where
+  pub spread_hung : EndsApart u v k n → ((x : ℕ) → x < n → at place x ≢ 256) → HungAt u v k n 0 par order place
+  spread_hung R all = all_hung s.grown R all
 
-  pub spread_apart : x < n → ¬ Connected u v k n
-  spread_apart l c = not_joined s x (q.here l) (c x l)
+  pub spread_apart : (x : ℕ) × (x < n) × (at place x ≡ 256) → ¬ Connected u v k n
+  spread_apart t c = not_joined s t.0 t.2 (c t.0 t.1)

@@ -15,6 +15,7 @@ use Rattle.arrays.specs.work.Filled.{Filled}
 use Rattle.net.specs.Graph.{Ends}
 use Rattle.mesh.specs.Mesh.{RepeatsPair}
 use Rattle.mesh.specs.work.Rows.{EndsApart}
+use Rattle.mesh.specs.work.Bands.{NoRepeat}
 use Rattle.mesh.specs.work.Repeat.{Top, Cell, SlotOf, SeenAs, RepeatIn, FirstRepeat}
 use Rattle.mesh.proofs.Pigeon.{crowded}
 use Rattle.mesh.proofs.Reading.{rows_wide}
@@ -222,13 +223,9 @@ repeating_next {u} {v} {t = t} {from} {r} {s} p q =
     here h (no m) = q.here (omega (arith, q.within))
 
 pub repeating_end : {u v : ℕ → ℕ} {k n t from r : ℕ} → Repeating u v k n t from r → ¬ (from < 256 * n)
-    → FirstRepeat u v k r
+    → (r < k → FirstRepeat u v k r) × (k ≤ r → NoRepeat u v k)
 repeating_end {u} {v} {k} {n} {t} {from} {r} p m =
-    record {
-      within = omega (arith, p.within, top_low p.size);
-      before = before;
-      here = λ h. here h (dec_le (r + 1) t);
-    }
+    (λ h. record { within = h; before = before; here = here h (dec_le (r + 1) t) }, λ h i l. before i (omega arith))
   where
     low : t ≤ k
     low = top_low p.size

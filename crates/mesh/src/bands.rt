@@ -43,13 +43,7 @@ fn round(par: &[u16; 256], place: &[u16; 256], p: usize, q: usize, over: &mut [u
 fn extra(d: usize, e: usize, p: usize, q: usize) -> bool
     ensures { (result ≡ true → (d ≢ q) × (e ≢ p)) × (result ≡ false → (d ≡ q) ⊎ (e ≡ p)) }
 {
-    if d == q {
-        return false;
-    }
-    if e == p {
-        return false;
-    }
-    true
+    d != q && e != p
 }
 
 // For all rows that are no node's own; false as soon as two pass over one node.
@@ -66,16 +60,11 @@ pub(crate) fn passes(
         place.now over.new result }
 {
     fill(over, 256);
-    let mut r: usize = 0;
-    while r < rows {
-        let f = r;
-        r += 1;
-        let p = first_end(s, f);
-        let q = second_end(s, f);
-        if extra(wide(par[p]), wide(par[q]), p, q) {
-            if !round(par, place, p, q, over) {
-                return false;
-            }
+    for r in 0..rows {
+        let p = first_end(s, r);
+        let q = second_end(s, r);
+        if extra(wide(par[p]), wide(par[q]), p, q) && !round(par, place, p, q, over) {
+            return false;
         }
     }
     true
@@ -95,11 +84,9 @@ pub(crate) fn sizes(n: usize, over: &mut [u16; 256], size: &mut [u16; 256])
         × BandSizes n over.new size.new }
 {
     fill(size, 0);
-    let mut x: usize = 0;
-    while x < n {
+    for x in 0..n {
         let g = named(over[x], x);
         over[x] = g as u16;
         size[g] += 1;
-        x += 1;
     }
 }

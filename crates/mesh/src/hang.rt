@@ -1,6 +1,7 @@
 // A spanning tree: nodes are hung up one by one, each below one that hangs already and by a row that joins the two.
 // From node 0 it is found by the rows; from any other node it is the same tree, turned.
-ghost use Rattle.std.specs.Prelude.{◌≤◌, ◌<◌, ◌≡◌, true, false, set};
+ghost use Rattle.std.specs.Prelude.{ℕ, ◌≤◌, ◌<◌, ◌≡◌, ◌≢◌, true, false, set, MatchOption};
+ghost use Rattle.arrays.specs.At.{at};
 ghost use Rattle.net.specs.Net.{first_end, second_end};
 ghost use Rattle.mesh.specs.work.Rows.{MeshReadable};
 ghost use Rattle.mesh.specs.Mesh.{Connected};
@@ -8,8 +9,8 @@ ghost use Rattle.mesh.specs.work.Hung.{
   RootAlone,
   OneTaken,
   Alike,
+  Closed,
   Leads,
-  FirstUnhung,
   HungAt,
   SomeTree,
   TurnedTo,
@@ -54,33 +55,21 @@ fn hang(
 fn lone(p: u16, q: u16) -> bool
     ensures { (result ≡ true → OneTaken p q) × (result ≡ false → Alike p q) }
 {
-    if p == 256 {
-        if q == 256 {
-            return false;
-        }
-        return true;
-    }
-    if q == 256 {
-        return true;
-    }
-    false
+    (p == 256) != (q == 256)
 }
 
-// The first row with exactly one end in the tree, or the number of rows.
-fn leads(s: &[u8], rows: usize, place: &[u16; 256]) -> usize
+// The first row with exactly one end in the tree.
+fn leads(s: &[u8], rows: usize, place: &[u16; 256]) -> Option<usize>
     requires { MeshReadable s.now rows 256 }
-    ensures { Leads (first_end s.now) (second_end s.now) rows place.now result }
+    ensures { MatchOption result (Closed (first_end s.now) (second_end s.now) rows place.now)
+        (λ r. Leads (first_end s.now) (second_end s.now) rows place.now r) }
 {
-    let mut r: usize = 0;
-    while r < rows {
-        let p = place[first_end(s, r)];
-        let q = place[second_end(s, r)];
-        if lone(p, q) {
-            return r;
+    for r in 0..rows {
+        if lone(place[first_end(s, r)], place[second_end(s, r)]) {
+            return Some(r);
         }
-        r += 1;
     }
-    r
+    None
 }
 
 // Of the ends of a row that leads on the one that does not hang yet; t is the first one's place.
@@ -90,19 +79,13 @@ fn new_end(t: u16, p: usize, q: usize) -> usize
     if t == 256 { p } else { q }
 }
 
-// The first node that does not hang in the tree, or n.
-fn missing(place: &[u16; 256], n: usize) -> usize
+// Whether some node does not hang in the tree.
+fn missing(place: &[u16; 256], n: usize) -> bool
     requires { n ≤ 256 }
-    ensures { FirstUnhung place.now n result }
+    ensures { (result ≡ true → (x : ℕ) × (x < n) × (at place.now x ≡ 256))
+        × (result ≡ false → (x : ℕ) → x < n → at place.now x ≢ 256) }
 {
-    let mut x: usize = 0;
-    while x < n {
-        if place[x] == 256 {
-            return x;
-        }
-        x += 1;
-    }
-    x
+    place[..n].contains(&256)
 }
 
 // Hangs up all nodes that are joined to node 0. Whether these are all n.
@@ -121,20 +104,15 @@ pub(crate) fn spread(
 {
     start(0, par, order, place);
     let mut m: usize = 1;
-    let mut r = leads(s, rows, place);
-    while r < rows {
+    while let Some(r) = leads(s, rows, place) {
         let p = first_end(s, r);
         let q = second_end(s, r);
         let c = new_end(place[p], p, q);
         let d = p + q - c;
         hang(par, order, place, m, c, d);
         m += 1;
-        r = leads(s, rows, place);
     }
-    if missing(place, n) < n {
-        return false;
-    }
-    true
+    !missing(place, n)
 }
 
 // The tree of node 0 hung up at node a: first the climb from a to node 0, turned round, then every other node below its
@@ -161,10 +139,8 @@ pub(crate) fn turn(
         m += 1;
         x = p;
     }
-    let mut i: usize = 1;
-    while i < n {
+    for i in 1..n {
         let y = wide(order0[i]);
-        i += 1;
         if place[y] == 256 {
             let p = wide(par0[y]);
             hang(par, order, place, m, y, p);

@@ -10,7 +10,7 @@ mod repeats;
 mod rows;
 mod sweep;
 
-ghost use Rattle.std.specs.Prelude.{ℕ, ◌≤◌, ◌<◌, ◌≡◌, List, true, false};
+ghost use Rattle.std.specs.Prelude.{ℕ, ◌≤◌, ◌<◌, ◌≡◌, List, MatchOption};
 ghost use Rattle.table.specs.Header.{version_of};
 ghost use Rattle.table.specs.Row.{Stands};
 ghost use Rattle.net.specs.Net.{first_end, second_end};
@@ -31,10 +31,9 @@ pub enum MeshAnswer {
     Refused(Refusal),
 }
 
-// What one root gives: false for 38; the most branches on a path from there, and its other end.
+// The most branches on a path from one root, and its other end.
 #[derive(Drop)]
-struct Given {
-    fine: bool,
+struct Far {
     branches: u16,
     node: usize,
 }
@@ -49,7 +48,7 @@ fn refused(number: u8, row: usize) -> MeshAnswer
     })
 }
 
-// The most branches on a simple path from node a.
+// The most branches on a simple path from node a; None for 38.
 fn from_root(
     s: &[u8],
     rows: usize,
@@ -57,15 +56,13 @@ fn from_root(
     par0: &[u16; 256],
     order0: &[u16; 256],
     a: usize,
-) -> Given
+) -> Option<Far>
     requires { MeshReadable s.now rows n
         × ((place0 : List ℕ)
         × HungAt (first_end s.now) (second_end s.now) rows n 0 par0.now order0.now place0)
         × NoRepeat (first_end s.now) (second_end s.now) rows × (a < n) }
-    ensures { (result.fine ≡ true
-        → FromRoot (first_end s.now) (second_end s.now) rows a result.branches result.node)
-        × (result.fine ≡ false → ¬ OneRing (first_end s.now) (second_end s.now) rows)
-        × (result.node < n) }
+    ensures { MatchOption result (¬ OneRing (first_end s.now) (second_end s.now) rows)
+        (λ f. FromRoot (first_end s.now) (second_end s.now) rows a f.branches f.node × (f.node < n)) }
 {
     let mut par: [u16; 256] = [0; 256];
     let mut order: [u16; 256] = [0; 256];
@@ -77,23 +74,17 @@ fn from_root(
     let mut climb: [u16; 256] = [0; 256];
     hang::turn(n, par0, order0, a, &mut par, &mut order, &mut place);
     if !bands::passes(s, rows, &par, &place, &mut over) {
-        return Given {
-            fine: false,
-            branches: 0,
-            node: 0,
-        };
+        return None;
     }
     bands::sizes(n, &mut over, &mut size);
     sweep::sweep(
         n, &par, &order, &over, &size, &mut most, &mut base, &mut climb,
     );
-    let z = sweep::farthest(&most, n);
-    let l = most[z];
-    Given {
-        fine: true,
-        branches: l,
-        node: z,
-    }
+    let node = sweep::farthest(&most, n);
+    Some(Far {
+        branches: most[node],
+        node,
+    })
 }
 
 // 37 and 38, and the most over all roots: of equal ones the first.
@@ -107,25 +98,21 @@ fn from_all(s: &[u8], rows: usize, n: usize) -> MeshAnswer
     if !hang::spread(s, rows, n, &mut par, &mut order, &mut place) {
         return refused(37, 0);
     }
-    let mut best: u16 = 0;
+    let mut branches: u16 = 0;
     let mut low: usize = 0;
     let mut high: usize = 0;
-    let mut a: usize = 0;
-    while a < n {
-        let root = a;
-        a += 1;
-        let g = from_root(s, rows, n, &par, &order, root);
-        if !g.fine {
+    for a in 0..n {
+        let Some(far) = from_root(s, rows, n, &par, &order, a) else {
             return refused(38, 0);
-        }
-        if best < g.branches {
-            best = g.branches;
-            low = root;
-            high = g.node;
+        };
+        if branches < far.branches {
+            branches = far.branches;
+            low = a;
+            high = far.node;
         }
     }
     MeshAnswer::Most {
-        branches: best,
+        branches,
         low: low as u16,
         high: high as u16,
     }
@@ -137,12 +124,10 @@ fn tested(s: &[u8], rows: usize, n: usize) -> MeshAnswer
     ensures { MeshRows MeshAnswer mesh_refusal s.now n rows
         (Answered (first_end s.now) (second_end s.now) rows n) result }
 {
-    let t = rows::first_bad(s, n, rows);
-    if t.number != 0 {
-        return refused(t.number, t.row);
+    if let Some(bad) = rows::first_bad(s, n, rows) {
+        return refused(bad.number, bad.row);
     }
-    let r = repeats::first_repeat(s, n, rows);
-    if r < rows {
+    if let Some(r) = repeats::first_repeat(s, n, rows) {
         return refused(36, r);
     }
     from_all(s, rows, n)
@@ -151,9 +136,8 @@ fn tested(s: &[u8], rows: usize, n: usize) -> MeshAnswer
 pub fn mesh(s: &[u8]) -> MeshAnswer
     ensures { MeshOf s.now result }
 {
-    let h = header::open(s);
-    if h.number != 0 {
-        return refused(h.number, 0);
+    match header::open(s) {
+        Err(number) => refused(number, 0),
+        Ok(h) => tested(s, h.rows, h.nodes),
     }
-    tested(s, h.rows, h.nodes)
 }

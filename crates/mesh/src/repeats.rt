@@ -2,20 +2,13 @@
 // each pass over the rows a quarter of the cells is noted where it is seen, so that the note takes 16 KiB and there are
 // four passes at the most. A row with a cell outside the quarter goes by a place of its own, which is never seen, so
 // that no test parts the rows: they may come in any order.
-ghost use Rattle.std.specs.Prelude.{◌*◌, ◌<◌};
-ghost use Rattle.arrays.specs.work.Filled.{Filled};
+ghost use Rattle.std.specs.Prelude.{◌*◌, ◌<◌, MatchOption};
 ghost use Rattle.net.specs.Net.{first_end, second_end};
 ghost use Rattle.mesh.specs.work.Rows.{MeshReadable};
+ghost use Rattle.mesh.specs.work.Bands.{NoRepeat};
 ghost use Rattle.mesh.specs.work.Repeat.{Cell, SlotOf, SeenAs, RepeatIn, Top, FirstRepeat};
 
 use net::{first_end, second_end};
-
-// Nothing is seen yet.
-fn clear(seen: &mut [u8; 16385])
-    ensures { Filled 16385 0 seen.new }
-{
-    *seen = [0; 16385];
-}
 
 // The cell of a row with these ends, the same either way round.
 fn cell(p: usize, q: usize) -> usize
@@ -30,20 +23,18 @@ fn slot(from: usize, c: usize) -> usize
     requires { from < 65536 }
     ensures { SlotOf from c result }
 {
-    if c < from {
-        return 16384;
+    if c < from || from + 16384 <= c {
+        16384
+    } else {
+        c - from
     }
-    if from + 16384 <= c {
-        return 16384;
-    }
-    c - from
 }
 
 // What is noted at a place: 1, and 0 at the one of the cells outside.
 fn seen_as(j: usize) -> u8
     ensures { SeenAs j result }
 {
-    if j < 16384 { 1 } else { 0 }
+    u8::from(j < 16384)
 }
 
 // Of the rows below limit with cells among these the first that repeats a pair, or limit.
@@ -52,30 +43,28 @@ fn repeat_in(s: &[u8], from: usize, limit: usize) -> usize
     ensures { RepeatIn (first_end s.now) (second_end s.now) from limit result }
 {
     let mut seen: [u8; 16385] = [0; 16385];
-    clear(&mut seen);
-    let mut r: usize = 0;
-    while r < limit {
+    for r in 0..limit {
         let j = slot(from, cell(first_end(s, r), second_end(s, r)));
         if seen[j] != 0 {
             return r;
         }
         seen[j] = seen_as(j);
-        r += 1;
     }
-    r
+    limit
 }
 
 // How many rows are looked at: of 65,537 rows two join the same nodes, so that a long table costs no more.
 fn top(rows: usize) -> usize
     ensures { Top rows result }
 {
-    if rows < 65537 { rows } else { 65537 }
+    rows.min(65537)
 }
 
-// The first row that repeats a pair, or the number of rows.
-pub(crate) fn first_repeat(s: &[u8], n: usize, rows: usize) -> usize
+// The first row that repeats a pair.
+pub(crate) fn first_repeat(s: &[u8], n: usize, rows: usize) -> Option<usize>
     requires { MeshReadable s.now rows n }
-    ensures { FirstRepeat (first_end s.now) (second_end s.now) rows result }
+    ensures { MatchOption result (NoRepeat (first_end s.now) (second_end s.now) rows)
+        (λ r. FirstRepeat (first_end s.now) (second_end s.now) rows r) }
 {
     let mut r = top(rows);
     let mut from: usize = 0;
@@ -83,5 +72,5 @@ pub(crate) fn first_repeat(s: &[u8], n: usize, rows: usize) -> usize
         r = repeat_in(s, from, r);
         from += 16384;
     }
-    r
+    if r < rows { Some(r) } else { None }
 }

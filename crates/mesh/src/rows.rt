@@ -1,5 +1,5 @@
 // The rows of a version 3 table, each by itself: refusals 7 to 10.
-ghost use Rattle.std.specs.Prelude.{ℕ, ◌<◌, ◌≡◌};
+ghost use Rattle.std.specs.Prelude.{ℕ, ◌<◌, ◌≡◌, ◌≢◌, MatchOption};
 ghost use Rattle.table.specs.Header.{version_of};
 ghost use Rattle.table.specs.Row.{Stands};
 ghost use Rattle.table.specs.Examine.{RowNumber};
@@ -7,54 +7,46 @@ ghost use Rattle.mesh.specs.work.Rows.{FirstBadRow};
 
 use arrays::wide;
 
-// A row and its number; the number is 0 where all rows are good.
+// A row that is refused, and by which number.
 #[derive(Drop)]
-pub(crate) struct Tested {
+pub(crate) struct BadRow {
     pub number: u8,
     pub row: usize,
 }
 
-// The first of 7 to 10 that a row meets, or 0.
-fn row_number(s: &[u8], r: usize, n: usize) -> u8
+// The first of 7 to 10 that a row meets.
+fn row_number(s: &[u8], r: usize, n: usize) -> Option<u8>
     requires { Stands s.now r × (version_of s.now ≡ 3) }
-    ensures { RowNumber n s.now r result }
+    ensures { MatchOption result (RowNumber n s.now r 0) (λ k. RowNumber n s.now r k × (k ≢ 0)) }
 {
     let q = table::row_at(s, r);
     let a = wide(q.a);
     let b = wide(q.b);
-    if n <= a {
-        return 7;
-    }
-    if n <= b {
-        return 7;
+    if n <= a || n <= b {
+        return Some(7);
     }
     if a == b {
-        return 8;
+        return Some(8);
     }
     if 1000000 < q.length {
-        return 9;
+        return Some(9);
     }
-    if q.weight < -1000000 {
-        return 10;
+    if q.weight < -1000000 || 1000000 < q.weight {
+        return Some(10);
     }
-    if 1000000 < q.weight {
-        return 10;
-    }
-    0
+    None
 }
 
 // Every row in order.
-pub(crate) fn first_bad(s: &[u8], n: usize, rows: usize) -> Tested
+pub(crate) fn first_bad(s: &[u8], n: usize, rows: usize) -> Option<BadRow>
     requires { ((r : ℕ) → r < rows → Stands s.now r) × (version_of s.now ≡ 3) }
-    ensures { FirstBadRow s.now n rows result.number result.row }
+    ensures { MatchOption result ((r : ℕ) → r < rows → RowNumber n s.now r 0)
+        (λ t. FirstBadRow s.now n rows t.number t.row) }
 {
-    let mut r: usize = 0;
-    while r < rows {
-        let number = row_number(s, r, n);
-        if number != 0 {
-            return Tested { number, row: r };
+    for r in 0..rows {
+        if let Some(number) = row_number(s, r, n) {
+            return Some(BadRow { number, row: r });
         }
-        r += 1;
     }
-    Tested { number: 0, row: r }
+    None
 }

@@ -55,8 +55,7 @@ pub(crate) fn sweep(
     fill(most, 0);
     fill(base, 0);
     fill(climb, 0);
-    let mut j: usize = 1;
-    while j < n {
+    for j in 1..n {
         let z = wide(order[j]);
         let p = wide(par[z]);
         let f = over[z];
@@ -67,7 +66,6 @@ pub(crate) fn sweep(
         base[z] = b;
         climb[z] = i;
         most[z] = d;
-        j += 1;
     }
 }
 
@@ -77,12 +75,9 @@ pub(crate) fn farthest(d: &[u16; 256], n: usize) -> usize
     ensures { Farthest n d.now result }
 {
     let mut z: usize = 0;
-    let mut x: usize = 1;
-    while x < n {
-        let y = x;
-        x += 1;
-        if d[y] > d[z] {
-            z = y;
+    for x in 1..n {
+        if d[x] > d[z] {
+            z = x;
         }
     }
     z

@@ -1,7 +1,7 @@
 use Rattle.mesh.proofs.Roots.{two_rings_refused, rooting_start, rooting_keep, rooting_more, rooting_end}
 use Rattle.table.specs.Refuse.{refused}
-use borrow.Author.Tests.{not-true, not-false}
 use native.Mathlib.Omega.{arith}
+use Rattle.mesh.proofs.from_all.Goals.{then-branches-far, else-branches-far}
 use Rattle.mesh.proofs.from_all.Goals as goal
 
 pub spread-requires : goal.spread-requires
@@ -13,38 +13,28 @@ returns-then-not-spread c = rw c.refused.ensures (refused (c.spread.ensures.1 c.
 pub loop-a-init : goal.loop-a-init
 loop-a-init c = (rooting_start c.requires.1, (_, c.spread.ensures.0 c.if-not-spread.false))
 
-pub from_root-g-requires : goal.from_root-g-requires
-from_root-g-requires c =
+pub from_root-requires : goal.from_root-requires
+from_root-requires c =
     let loop-inv = c.loop-a.invariant in
     let pre = c.requires in
     (pre.0, loop-inv.1, pre.2, c.loop-a-test.true)
 
-pub returns-then-not-g : goal.returns-then-not-g
-returns-then-not-g c =
-    let from-root-ensures = c.from_root-g.ensures in
-    let loop-inv = c.loop-a.invariant in
-    rw c.refused-then-not-g.ensures
-    (two_rings_refused loop-inv.1.1 (from-root-ensures.1 (not-true _ c.if-not-g.true)))
-
-pub loop-a-preserved-then-best-g : goal.loop-a-preserved-then-best-g
-loop-a-preserved-then-best-g c =
-    let from-root-ensures = c.from_root-g.ensures in
-    let loop-test-taken = c.loop-a-test.true in
-    let loop-inv = c.loop-a.invariant in (
-      rooting_more loop-inv.0 loop-test-taken (from-root-ensures.0 (not-false _ c.if-not-g.false))
-          from-root-ensures.2 c.if-best-g.true,
-      loop-inv.1,
-    )
+pub returns-in_default : goal.returns-in_default
+returns-in_default c =
+    rw c.refused-in_default.ensures (two_rings_refused c.loop-a.invariant.1.1 c.in_default.ensures)
 
 pub loop-a-preserved : goal.loop-a-preserved
 loop-a-preserved c =
-    let from-root-ensures = c.from_root-g.ensures in
-    let loop-test-taken = c.loop-a-test.true in
-    let loop-inv = c.loop-a.invariant in (
-      rooting_keep loop-inv.0 loop-test-taken (from-root-ensures.0 (not-false _ c.if-not-g.false))
-          from-root-ensures.2 (λ h. omega (arith, c.if-best-g.false)),
-      loop-inv.1,
-    )
+    let far = c.in-Some.ensures in
+    let loop-inv = c.loop-a.invariant in
+    elim c.if-branches-far.branch [
+      | then-branches-far w ↦
+          rw (w.branches-is, w.low-is, w.high-is)
+          (rooting_more loop-inv.0 c.loop-a-test.true far.0 far.1 w.if-branches-far.true, loop-inv.1)
+      | else-branches-far w ↦
+          rw (w.branches-is, w.low-is, w.high-is)
+          (rooting_keep loop-inv.0 c.loop-a-test.true far.0 far.1 (λ h. omega arith), loop-inv.1)
+    ]
 
 pub overflow_cast-result : goal.overflow_cast-result
 overflow_cast-result c =

@@ -3,13 +3,10 @@ use Rattle.mesh.proofs.Roots.{Rooting}
 use Rattle.mesh.specs.work.Hung.{HungAt}
 use Rattle.net.specs.Net.{first_end, second_end}
 use mathlib.Core.List.{List}
-use Prim.Native.Nat.{ℕ, ◌-◌}
+use Prim.Native.Nat.{ℕ}
 use Rattle.mesh.proofs.from_all.Given as goal
 
 abbrev pub invariant-loop-a : goal.invariant-loop-a
 invariant-loop-a l =
-    Rooting (first_end l.s) (second_end l.s) l.rows l.n l.a l.best l.low l.high
+    Rooting (first_end l.s) (second_end l.s) l.rows l.n l.a l.branches l.low l.high
     × ((place : List ℕ) × HungAt (first_end l.s) (second_end l.s) l.rows l.n 0 l.par l.order place)
-
-abbrev pub decreases-loop-a : goal.decreases-loop-a
-decreases-loop-a l = l.n - l.a

@@ -1,7 +1,6 @@
 -- `from_root` meets its contract: the tree turned, the bands, the sweep, and the first node with the greatest value.
 use Rattle.mesh.proofs.Root.{passed_low, ordered, banded, root_gives}
 use Rattle.mesh.proofs.Reading.{wide_readable}
-use mathlib.Core.Bool.{true≢false, false≢true}
 use mathlib.Core.Path.{refl}
 use native.Mathlib.Omega.{arith}
 use Rattle.mesh.proofs.from_root.Goals as goal
@@ -19,11 +18,8 @@ passes-requires c =
 
 pub returns-then-not-passes : goal.returns-then-not-passes
 returns-then-not-passes c =
-    let h = c.turn.ensures _ _ _ _ c.requires.1.1 in (
-      λ t. absurd (false≢true t),
-      λ _. (c.passes.ensures _ _ _ h).1 c.if-not-passes.true,
-      omega (arith, c.requires.3),
-    )
+    let h = c.turn.ensures _ _ _ _ c.requires.1.1 in
+    (c.passes.ensures _ _ _ h).1 c.if-not-passes.true
 
 pub sizes-requires : goal.sizes-requires
 sizes-requires c =
@@ -38,20 +34,20 @@ sweep-requires c =
     let pre = c.requires in
     (ordered (turn-ensures _ _ _ _ pre.1.1), sizes-ensures.2)
 
-pub farthest-z-requires : goal.farthest-z-requires
-farthest-z-requires c =
+pub farthest-node-requires : goal.farthest-node-requires
+farthest-node-requires c =
     let pre = c.requires in
     (omega (arith, pre.3), pre.0.few)
 
-pub offset_bounds-most-z : goal.offset_bounds-most-z
-offset_bounds-most-z c =
+pub offset_bounds-most-node : goal.offset_bounds-most-node
+offset_bounds-most-node c =
     let pre = c.requires in
-    omega (arith, c.farthest-z.ensures.within, pre.0.few)
+    omega (arith, c.farthest-node.ensures.within, pre.0.few)
 
-pub bounds-most-z : goal.bounds-most-z
-bounds-most-z c =
+pub bounds-most-node : goal.bounds-most-node
+bounds-most-node c =
     let pre = c.requires in
-    omega (arith, c.farthest-z.ensures.within, pre.0.few)
+    omega (arith, c.farthest-node.ensures.within, pre.0.few)
 
 pub returns : goal.returns
 returns c =
@@ -63,8 +59,6 @@ returns c =
     let h = turn-ensures _ _ _ _ pre.1.1 in
     let d = (passes-ensures _ _ _ h).0 if1-left in
     let g = banded h d sizes-ensures.0 sizes-ensures.1 in (
-      λ _. root_gives h pre.2 g (rw h.top.0 at c.sweep.ensures.0) c.farthest-z.ensures
-          refl,
-      λ t. absurd (true≢false t),
-      c.farthest-z.ensures.within,
+      root_gives h pre.2 g (rw h.top.0 at c.sweep.ensures.0) c.farthest-node.ensures refl,
+      c.farthest-node.ensures.within,
     )

@@ -1,41 +1,25 @@
 -- `mesh` meets its contract: a bad header is refused by its number; of a good one the node count and the rows are the
 -- table's, which stand there, and `tested` tells the rest (Front).
-use Prim.Native.Nat.{ℕ}
-use mathlib.Core.Path.{◌≡◌, ap}
-use mathlib.Core.List.{List}
-use Rattle.table.specs.Header.{nodes_of}
-use Rattle.mesh.specs.Table.{rows_of}
-use Rattle.mesh.proofs.Front.{Headed, head_refused, head_good, headed_stands, head_passed}
+use mathlib.Core.Path.{ap}
 use native.Mathlib.Omega.{arith}
-use Rattle.mesh.proofs.mesh.Goals.{Else-h-ne0}
+use Rattle.mesh.proofs.Front.{head_refused, head_good, headed_stands, head_passed}
 use Rattle.mesh.proofs.mesh.Goals as goal
 
--- a good header's
-module _ (c : Else-h-ne0) where
-  abbrev bytes : List ℕ
-  bytes = c.args.s.now
-
-  headed : Headed bytes
-  headed = (head_good bytes c.open-h.ensures c.if-h-ne0.false).0
-
-  nodes_is : c.open-h.result.nodes ≡ nodes_of bytes
-  nodes_is = ap (λ h. h.nodes) (head_good bytes c.open-h.ensures c.if-h-ne0.false).1
-
-  rows_is : c.open-h.result.rows ≡ rows_of bytes
-  rows_is = ap (λ h. h.rows) (head_good bytes c.open-h.ensures c.if-h-ne0.false).1
-
-pub returns-then-h-ne0 : goal.returns-then-h-ne0
-returns-then-h-ne0 c = rw c.refused.ensures (head_refused c.args.s.now c.open-h.ensures c.if-h-ne0.true)
+pub returns-in-Err : goal.returns-in-Err
+returns-in-Err c = rw c.refused.ensures (head_refused c.args.s.now c.in-Err.ensures)
 
 pub tested-requires : goal.tested-requires
 tested-requires c =
-    let t = (goal.at.tested-requires c).Else-h-ne0 in (
-      λ r l. headed_stands (headed t) r (omega (arith, rows_is t)),
-      (headed t).version,
-      omega (arith, nodes_is t, (headed t).some),
-      omega (arith, nodes_is t, (headed t).few),
+    let t = head_good c.args.s.now c.in-Ok.ensures in
+    let nodes = ap (λ h. h.nodes) t.1 in
+    let rows = ap (λ h. h.rows) t.1 in (
+      λ r l. headed_stands t.0 r (omega (arith, rows)),
+      t.0.version,
+      omega (arith, nodes, t.0.some),
+      omega (arith, nodes, t.0.few),
     )
 
-pub returns : goal.returns
-returns c =
-    let t = (goal.at.returns c).Else-h-ne0 in head_passed (headed t) (nodes_is t) (rows_is t) c.tested.ensures
+pub returns-in-Ok : goal.returns-in-Ok
+returns-in-Ok c =
+    let t = head_good c.args.s.now c.in-Ok.ensures in
+    head_passed t.0 (ap (λ h. h.nodes) t.1) (ap (λ h. h.rows) t.1) c.tested.ensures

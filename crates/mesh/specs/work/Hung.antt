@@ -33,17 +33,15 @@ OneTaken p q = ((p ≡ 256) × (q ≢ 256)) ⊎ ((p ≢ 256) × (q ≡ 256))
 abbrev pub Alike : ℕ → ℕ → Type 0
 Alike p q = (p ≡ 256 → q ≡ 256) × (q ≡ 256 → p ≡ 256)
 
--- the first row with exactly one end in the tree, or k
-pub record Leads (u v : ℕ → ℕ) (k : ℕ) (place : List ℕ) (r : ℕ) : Type 0 where
-  pub within : r ≤ k
-  pub before : (i : ℕ) → i < r → Alike (at place (u i)) (at place (v i))
-  pub here : r < k → OneTaken (at place (u r)) (at place (v r))
+-- of each of k rows both ends are in the tree, or none
+abbrev pub Closed : (ℕ → ℕ) → (ℕ → ℕ) → ℕ → List ℕ → Type 0
+Closed u v k place = (r : ℕ) → r < k → Alike (at place (u r)) (at place (v r))
 
--- the first of n nodes that does not hang in it, or n
-pub record FirstUnhung (place : List ℕ) (n x : ℕ) : Type 0 where
-  pub within : x ≤ n
-  pub before : (i : ℕ) → i < x → at place i ≢ 256
-  pub here : x < n → at place x ≡ 256
+-- the first of k rows with exactly one end in the tree
+pub record Leads (u v : ℕ → ℕ) (k : ℕ) (place : List ℕ) (r : ℕ) : Type 0 where
+  pub within : r < k
+  pub before : Closed u v r place
+  pub here : OneTaken (at place (u r)) (at place (v r))
 
 -- all n nodes hang in it, in an order with parents first
 pub record HungAt (u v : ℕ → ℕ) (k n a : ℕ) (par order place : List ℕ) : Type 0 where

@@ -27,7 +27,8 @@ pub record Top (k t : ℕ) : Type 0 where
   pub short : k ≤ 65537 → t ≡ k
   pub long : 65537 ≤ k → t ≡ 65537
 
+-- of k rows the first that repeats a pair
 pub record FirstRepeat (u v : ℕ → ℕ) (k r : ℕ) : Type 0 where
-  pub within : r ≤ k
+  pub within : r < k
   pub before : (i : ℕ) → i < r → ¬ RepeatsPair u v i
-  pub here : r < k → RepeatsPair u v r
+  pub here : RepeatsPair u v r

@@ -1,5 +1,5 @@
 -- The rows of a mesh: what the functions that read them ask, and what the test of all of them gives.
-use Rattle.std.specs.Prelude.{ℕ, ◌≤◌, ◌<◌, ◌≡◌, ◌≢◌, List}
+use Rattle.std.specs.Prelude.{ℕ, ◌≤◌, ◌<◌, ◌≢◌, List}
 use Rattle.table.specs.Row.{Stands}
 use Rattle.table.specs.Examine.{RowNumber}
 use Rattle.net.specs.Net.{first_end, second_end}
@@ -16,8 +16,9 @@ pub record MeshReadable (s : List ℕ) (k n : ℕ) : Type 0 where
   pub rows : EndsApart (first_end s) (second_end s) k n
   pub few : n ≤ 256
 
--- the first bad row and its number; number 0 where all k are good
+-- the first bad row of k and its number
 pub record FirstBadRow (s : List ℕ) (n k number row : ℕ) : Type 0 where
+  pub within : row < k
   pub before : (i : ℕ) → i < row → RowNumber n s i 0
-  pub here : number ≢ 0 → (row < k) × RowNumber n s row number
-  pub good : number ≡ 0 → row ≡ k
+  pub here : RowNumber n s row number
+  pub bad : number ≢ 0

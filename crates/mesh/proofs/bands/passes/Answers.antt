@@ -2,6 +2,7 @@ use Rattle.mesh.proofs.Climbs.{passes_start, passes_skip, extra_not, round_of}
 use mathlib.Core.Bool.{true≢false, false≢true}
 use mathlib.Core.Path.{◌≡◌}
 use native.Mathlib.Omega.{arith}
+use Rattle.mesh.proofs.bands.passes.Goals.{else-extra-via-then-extra+else-not-round, else-extra-via-else-extra}
 use Rattle.mesh.proofs.bands.passes.Goals as goal
 
 pub loop-r-init : goal.loop-r-init
@@ -68,28 +69,26 @@ returns-then-not-round c =
     c.wide-in-loop-r.ensures.0 (c.extra.ensures.0 c.if-extra.true) (c.loop-r.invariant.1 n a order h) in
     (λ e. absurd (false≢true e), λ _. (c.round.ensures _ _ _ n a order _ t).1 c.if-not-round.true)
 
-pub loop-r-preserved-else-not-round : goal.loop-r-preserved-else-not-round
-loop-r-preserved-else-not-round c =
-    let first-end-ensures = c.first_end-p.ensures in
-    let second-end-ensures = c.second_end-q.ensures in (
-      omega arith,
-      λ n a order h.
-          let t = round_of h c.loop-r-test.true first-end-ensures second-end-ensures c.wide.ensures.0
-          c.wide-in-loop-r.ensures.0 (c.extra.ensures.0 c.if-extra.true) (c.loop-r.invariant.1 n a order h) in
-          (c.round.ensures _ _ _ n a order _ t).0 c.if-not-round.false,
-    )
-
 pub loop-r-preserved : goal.loop-r-preserved
 loop-r-preserved c =
     let wide-ensures = c.wide.ensures in
+    let wide2-ensures = c.wide-in-loop-r.ensures in
     let second-end-ensures = c.second_end-q.ensures in
     let first-end-ensures = c.first_end-p.ensures in
     let loop-inv = c.loop-r.invariant in (
       omega arith,
-      λ n a order h. passes_skip
-          (extra_not first-end-ensures second-end-ensures wide-ensures.0 c.wide-in-loop-r.ensures.0
-          (c.extra.ensures.1 c.if-extra.false))
-          (loop-inv.1 n a order h),
+      λ n a order h. elim c.else-extra.branch [
+        | else-extra-via-then-extra+else-not-round w ↦
+            let t = round_of h c.loop-r-test.true first-end-ensures second-end-ensures wide-ensures.0 wide2-ensures.0
+            (c.extra.ensures.0 w.if-extra.true) (loop-inv.1 n a order h) in
+            rw w.over-is ((w.round.ensures _ _ _ n a order _ t).0 w.if-not-round.false)
+        | else-extra-via-else-extra w ↦
+            rw w.over-is
+            (passes_skip
+            (extra_not first-end-ensures second-end-ensures wide-ensures.0 wide2-ensures.0
+            (c.extra.ensures.1 w.if-extra.false))
+            (loop-inv.1 n a order h))
+      ],
     )
 
 pub returns : goal.returns

@@ -3,7 +3,7 @@ use Rattle.mesh.specs.work.Bands.{AllPassed}
 use Rattle.mesh.specs.work.Hung.{HungAt}
 use Rattle.net.specs.Net.{first_end, second_end}
 use mathlib.Core.List.{List}
-use Prim.Native.Nat.{ℕ, ◌-◌, ◌≤◌}
+use Prim.Native.Nat.{ℕ, ◌≤◌}
 use Rattle.mesh.proofs.bands.passes.Given as goal
 
 abbrev pub invariant-loop-r : goal.invariant-loop-r
@@ -11,6 +11,3 @@ invariant-loop-r l =
     (l.r ≤ l.rows)
     × ((n a : ℕ) (order : List ℕ) → HungAt (first_end l.s) (second_end l.s) l.rows n a l.par order l.place
     → AllPassed (first_end l.s) (second_end l.s) n a l.par l.place l.r l.over)
-
-abbrev pub decreases-loop-r : goal.decreases-loop-r
-decreases-loop-r l = l.rows - l.r

@@ -1,10 +1,6 @@
 -- `sizes` meets its contract. The loop's invariant: the nodes below x are named and counted.
 use Rattle.mesh.proofs.Sizing.{Sizing}
-use Prim.Native.Nat.{◌-◌}
 use Rattle.mesh.proofs.bands.sizes.Given as goal
 
 abbrev pub invariant-loop-x : goal.invariant-loop-x
 invariant-loop-x l = Sizing l.n l.initial.over l.x l.over l.size
-
-abbrev pub decreases-loop-x : goal.decreases-loop-x
-decreases-loop-x l = l.n - l.x

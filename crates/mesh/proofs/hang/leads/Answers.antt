@@ -3,7 +3,7 @@ use native.Mathlib.Omega.{arith}
 use Rattle.mesh.proofs.hang.leads.Goals as goal
 
 pub loop-r-init : goal.loop-r-init
-loop-r-init c = (omega arith, λ i h. absurd (omega arith))
+loop-r-init c = λ i h. absurd (omega arith)
 
 pub first_end-requires : goal.first_end-requires
 first_end-requires c = c.requires.stands _ (omega arith)
@@ -37,24 +37,18 @@ pub returns-then-lone : goal.returns-then-lone
 returns-then-lone c =
     let second-end-ensures = c.second_end.ensures in
     let first-end-ensures = c.first_end.ensures in
-    let loop-inv = c.loop-r.invariant in
     record {
-      within = loop-inv.0;
-      before = loop-inv.1;
-      here = λ h. rw (first-end-ensures, second-end-ensures) at (c.lone.ensures.0 c.if-lone.true);
+      within = c.loop-r-test.true;
+      before = c.loop-r.invariant;
+      here = rw (first-end-ensures, second-end-ensures) at (c.lone.ensures.0 c.if-lone.true);
     }
 
 pub loop-r-preserved : goal.loop-r-preserved
 loop-r-preserved c =
     let second-end-ensures = c.second_end.ensures in
     let first-end-ensures = c.first_end.ensures in
-    let loop-inv = c.loop-r.invariant in (
-      omega arith,
-      below_more _ _ loop-inv.1
-          (rw (first-end-ensures, second-end-ensures) at (c.lone.ensures.1 c.if-lone.false)),
-    )
+    below_more _ _ c.loop-r.invariant
+    (rw (first-end-ensures, second-end-ensures) at (c.lone.ensures.1 c.if-lone.false))
 
 pub returns : goal.returns
-returns c =
-    let loop-inv = c.loop-r.invariant in
-    record { within = loop-inv.0; before = loop-inv.1; here = λ h. absurd (omega arith) }
+returns c = λ i h. c.loop-r.invariant i (omega arith)

@@ -10,12 +10,9 @@ use Rattle.mesh.proofs.Growing.{
   spread_apart,
 }
 use Rattle.mesh.proofs.Reading.{wide_readable}
-use mathlib.Core.Bool.{true≢false, false≢true}
+use borrow.Author.Tests.{not-true, not-false}
 use native.Mathlib.Omega.{arith}
 use Rattle.mesh.proofs.hang.spread.Goals as goal
-
-pub leads-r-requires : goal.leads-r-requires
-leads-r-requires c = wide_readable c.requires.0
 
 pub loop-r-init : goal.loop-r-init
 loop-r-init c =
@@ -23,18 +20,17 @@ loop-r-init c =
     record {
       rows = pre.0.rows;
       grown = grown_start pre.0.few pre.1 c.start.ensures;
-      next = c.leads-r.ensures;
     }
 
 pub first_end-p-requires : goal.first_end-p-requires
 first_end-p-requires c =
     let pre = c.requires in
-    pre.0.stands _ c.loop-r-test.true
+    pre.0.stands _ c.in-Some.ensures.within
 
 pub second_end-q-requires : goal.second_end-q-requires
 second_end-q-requires c =
     let pre = c.requires in
-    pre.0.stands _ c.loop-r-test.true
+    pre.0.stands _ c.in-Some.ensures.within
 
 pub offset_bounds-place-p : goal.offset_bounds-place-p
 offset_bounds-place-p c =
@@ -43,7 +39,7 @@ offset_bounds-place-p c =
     omega (
       arith,
       c.first_end-p.ensures,
-      loop-inv.rows.first _ c.loop-r-test.true,
+      loop-inv.rows.first _ c.in-Some.ensures.within,
       pre.0.few,
     )
 
@@ -54,22 +50,21 @@ bounds-place-p c =
     omega (
       arith,
       c.first_end-p.ensures,
-      loop-inv.rows.first _ c.loop-r-test.true,
+      loop-inv.rows.first _ c.in-Some.ensures.within,
       pre.0.few,
     )
 
 pub overflow_add-d : goal.overflow_add-d
 overflow_add-d c =
     let first-end-ensures = c.first_end-p.ensures in
-    let loop-test-taken = c.loop-r-test.true in
     let loop-inv = c.loop-r.invariant in
     let pre = c.requires in
     omega (
       arith,
       first-end-ensures,
       c.second_end-q.ensures,
-      loop-inv.rows.first _ loop-test-taken,
-      loop-inv.rows.second _ loop-test-taken,
+      loop-inv.rows.first _ c.in-Some.ensures.within,
+      loop-inv.rows.second _ c.in-Some.ensures.within,
       pre.0.few,
     )
 
@@ -79,7 +74,7 @@ overflow_sub-d c =
     let loop-inv = c.loop-r.invariant in
     omega (
       arith,
-      new_low loop-inv _ _ _ first-end-ensures c.second_end-q.ensures c.new_end-c.ensures,
+      new_low loop-inv c.in-Some.ensures _ _ _ first-end-ensures c.second_end-q.ensures c.new_end-c.ensures,
     )
 
 pub hang-requires : goal.hang-requires
@@ -87,9 +82,8 @@ hang-requires c =
     let new-end-ensures = c.new_end-c.ensures in
     let second-end-ensures = c.second_end-q.ensures in
     let first-end-ensures = c.first_end-p.ensures in
-    let loop-test-taken = c.loop-r-test.true in
     let loop-inv = c.loop-r.invariant in
-    let t = end_new loop-inv _ _ _ first-end-ensures second-end-ensures new-end-ensures loop-test-taken in
+    let t = end_new loop-inv c.in-Some.ensures _ _ _ first-end-ensures second-end-ensures new-end-ensures in
     (room t, (c_fits t).0, (c_fits t).1)
 
 pub overflow_add-m : goal.overflow_add-m
@@ -97,23 +91,19 @@ overflow_add-m c =
     let new-end-ensures = c.new_end-c.ensures in
     let second-end-ensures = c.second_end-q.ensures in
     let first-end-ensures = c.first_end-p.ensures in
-    let loop-test-taken = c.loop-r-test.true in
     let loop-inv = c.loop-r.invariant in
-    omega (arith, room (end_new loop-inv _ _ _ first-end-ensures second-end-ensures new-end-ensures loop-test-taken))
+    omega (arith, room (end_new loop-inv c.in-Some.ensures _ _ _ first-end-ensures second-end-ensures new-end-ensures))
 
-pub leads-r-requires-in-loop-r : goal.leads-r-requires-in-loop-r
-leads-r-requires-in-loop-r c =
-    let pre = c.requires in
-    wide_readable pre.0
+pub leads-requires : goal.leads-requires
+leads-requires c = wide_readable c.requires.0
 
 pub loop-r-smaller : goal.loop-r-smaller
 loop-r-smaller c =
     let new-end-ensures = c.new_end-c.ensures in
     let second-end-ensures = c.second_end-q.ensures in
     let first-end-ensures = c.first_end-p.ensures in
-    let loop-test-taken = c.loop-r-test.true in
     let loop-inv = c.loop-r.invariant in
-    omega (arith, room (end_new loop-inv _ _ _ first-end-ensures second-end-ensures new-end-ensures loop-test-taken))
+    omega (arith, room (end_new loop-inv c.in-Some.ensures _ _ _ first-end-ensures second-end-ensures new-end-ensures))
 
 pub loop-r-preserved : goal.loop-r-preserved
 loop-r-preserved c =
@@ -121,29 +111,20 @@ loop-r-preserved c =
     let new-end-ensures = c.new_end-c.ensures in
     let second-end-ensures = c.second_end-q.ensures in
     let first-end-ensures = c.first_end-p.ensures in
-    let loop-test-taken = c.loop-r-test.true in
     let loop-inv = c.loop-r.invariant in
     record {
       rows = loop-inv.rows;
       grown = rw (hang-ensures.0, hang-ensures.1, hang-ensures.2)
-          (grown_push (end_new loop-inv _ _ _ first-end-ensures second-end-ensures new-end-ensures loop-test-taken));
-      next = c.leads-r-in-loop-r.ensures;
+          (grown_push (end_new loop-inv c.in-Some.ensures _ _ _ first-end-ensures second-end-ensures new-end-ensures));
     }
 
 pub missing-requires : goal.missing-requires
 missing-requires c = c.requires.0.few
 
-pub returns-then-missing-n : goal.returns-then-missing-n
-returns-then-missing-n c =
-    let loop-inv = c.loop-r.invariant in (
-      λ t. absurd (false≢true t),
-      λ _. spread_apart (spread_end loop-inv (λ h. omega arith)) c.missing.ensures c.if-missing-n.true,
-    )
-
 pub returns : goal.returns
 returns c =
-    let loop-inv = c.loop-r.invariant in (
-      λ _. spread_hung (spread_end loop-inv (λ h. omega arith)) c.missing.ensures loop-inv.rows
-          (λ h. omega (arith, c.if-missing-n.false)),
-      λ t. absurd (true≢false t),
+    let loop-inv = c.loop-r.invariant in
+    let whole = spread_end loop-inv c.in_default.ensures in (
+      λ t. spread_hung whole loop-inv.rows (c.missing.ensures.1 (not-true _ t)),
+      λ t. spread_apart whole (c.missing.ensures.0 (not-false _ t)),
     )

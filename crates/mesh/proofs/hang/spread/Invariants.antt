@@ -1,4 +1,4 @@
--- `spread` meets its contract. The loop's invariant: m nodes hang in the tree, and r is the next row that leads on.
+-- `spread` meets its contract. The loop's invariant: m nodes hang in the tree.
 use Rattle.mesh.proofs.Growing.{Spreading}
 use Rattle.net.specs.Net.{first_end, second_end}
 use Prim.Native.Nat.{◌-◌}
@@ -6,7 +6,7 @@ use Rattle.mesh.proofs.hang.spread.Given as goal
 
 abbrev pub invariant-loop-r : goal.invariant-loop-r
 invariant-loop-r l =
-    Spreading (first_end l.s) (second_end l.s) l.rows l.n l.m l.r l.par l.order l.place
+    Spreading (first_end l.s) (second_end l.s) l.rows l.n l.m l.par l.order l.place
 
 abbrev pub decreases-loop-r : goal.decreases-loop-r
 decreases-loop-r l = 256 - l.m

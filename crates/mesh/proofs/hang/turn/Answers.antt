@@ -14,7 +14,7 @@ use Rattle.arrays.specs.At.{at}
 use Prim.Native.Nat.{◌<◌}
 use mathlib.Core.Path.{ap}
 use native.Mathlib.Omega.{arith}
-use Rattle.mesh.proofs.hang.turn.Goals.{After-wide-y}
+use Rattle.mesh.proofs.hang.turn.Goals.{After-wide-y, then-place-y-eq256, else-place-y-eq256}
 use Rattle.mesh.proofs.hang.turn.Goals as goal
 
 y_in : (c : After-wide-y) → c.wide-y.result < 256
@@ -121,27 +121,28 @@ overflow_add-m-then-place-y-eq256 c =
     let s = loop2-inv _ _ _ _ h in
     omega (arith, room (turning_ready h s loop2-test-taken (rw wide2-ensures.0 at if1-taken)))
 
-pub loop-i-preserved-then-place-y-eq256 : goal.loop-i-preserved-then-place-y-eq256
-loop-i-preserved-then-place-y-eq256 c =
-    let wide3-ensures = c.wide-p-then-place-y-eq256.ensures in
-    let if1-taken = c.if-place-y-eq256.true in
-    let wide2-ensures = c.wide-y.ensures in
-    let loop2-test-taken = c.loop-i-test.true in
-    let loop2-inv = c.loop-i.invariant in
-    λ u v k place0 h. rw (
-      c.hang-then-place-y-eq256.ensures.0,
-      c.hang-then-place-y-eq256.ensures.1,
-      c.hang-then-place-y-eq256.ensures.2,
-      wide3-ensures.0,
-      wide2-ensures.0,
-    ) (turning_next h (loop2-inv u v k place0 h) loop2-test-taken (rw wide2-ensures.0 at if1-taken))
-
 pub loop-i-preserved : goal.loop-i-preserved
 loop-i-preserved c =
-    let loop2-test-taken = c.loop-i-test.true in
-    let loop2-inv = c.loop-i.invariant in
-    λ u v k place0 h. turning_skip h (loop2-inv u v k place0 h) loop2-test-taken
-    (rw c.wide-y.ensures.0 at c.if-place-y-eq256.false)
+    let loop-test-taken = c.loop-i-test.true in
+    let loop-inv = c.loop-i.invariant in
+    let at-y = c.wide-y.ensures in
+    elim c.if-place-y-eq256.branch [
+      | then-place-y-eq256 w ↦
+          λ u v k place0 h. rw (
+            w.par-is,
+            w.order-is,
+            w.place-is,
+            w.m-is,
+            w.hang-then-place-y-eq256.ensures.0,
+            w.hang-then-place-y-eq256.ensures.1,
+            w.hang-then-place-y-eq256.ensures.2,
+            w.wide-p-then-place-y-eq256.ensures.0,
+            at-y.0,
+          ) (turning_next h (loop-inv u v k place0 h) loop-test-taken (rw at-y.0 at w.if-place-y-eq256.true))
+      | else-place-y-eq256 w ↦
+          λ u v k place0 h. rw (w.par-is, w.order-is, w.place-is, w.m-is)
+          (turning_skip h (loop-inv u v k place0 h) loop-test-taken (rw at-y.0 at w.if-place-y-eq256.false))
+    ]
 
 pub returns : goal.returns
 returns c = λ u v k place0 h. turning_end h (c.loop-i.invariant u v k place0 h) (λ q. omega arith)

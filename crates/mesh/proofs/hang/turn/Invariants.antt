@@ -18,6 +18,3 @@ abbrev pub invariant-loop-i : goal.invariant-loop-i
 invariant-loop-i l =
     (u v : ℕ → ℕ) (k : ℕ) (place0 : List ℕ) → HungAt u v k l.n 0 l.par0 l.order0 place0
     → Turning u v k l.n l.a l.order0 l.m l.i l.par l.order l.place
-
-abbrev pub decreases-loop-i : goal.decreases-loop-i
-decreases-loop-i l = l.n - l.i

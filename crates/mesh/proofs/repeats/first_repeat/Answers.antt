@@ -30,5 +30,8 @@ overflow_add-from c = omega (arith, c.loop-from.invariant.few)
 pub loop-from-preserved : goal.loop-from-preserved
 loop-from-preserved c = repeating_next c.loop-from.invariant c.repeat_in-r.ensures
 
-pub returns : goal.returns
-returns c = repeating_end c.loop-from.invariant (λ h. omega arith)
+pub returns-then-r-rows : goal.returns-then-r-rows
+returns-then-r-rows c = (repeating_end c.loop-from.invariant (λ h. omega arith)).0 c.if-r-rows.true
+
+pub returns-else-r-rows : goal.returns-else-r-rows
+returns-else-r-rows c = (repeating_end c.loop-from.invariant (λ h. omega arith)).1 c.if-r-rows.false

@@ -1,9 +1,11 @@
+use mathlib.Core.Path.{◌≡◌}
+use Rattle.arrays.proofs.Fills.{filled}
 use Rattle.mesh.proofs.Repeating.{passing_start, slot_low, passing_found, passing_next, passing_end}
 use native.Mathlib.Omega.{arith}
 use Rattle.mesh.proofs.repeats.repeat_in.Goals as goal
 
 pub loop-r-init : goal.loop-r-init
-loop-r-init c = passing_start c.requires.0.rows c.clear.ensures
+loop-r-init c = passing_start c.requires.0.rows (filled _ _)
 
 pub first_end-requires : goal.first_end-requires
 first_end-requires c = c.requires.0.stands _ c.loop-r-test.true
@@ -70,4 +72,6 @@ loop-r-preserved c =
     c.slot-j.ensures c.if-seen-j-ne0.false c.seen_as.ensures
 
 pub returns : goal.returns
-returns c = passing_end c.loop-r.invariant (λ h. omega arith)
+returns c =
+    let e : c.loop-r.r ≡ c.args.limit = omega arith in
+    rw e at (passing_end c.loop-r.invariant (λ h. omega arith))

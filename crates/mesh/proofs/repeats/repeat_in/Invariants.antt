@@ -2,11 +2,7 @@
 -- noted as seen (Repeating).
 use Rattle.mesh.proofs.Repeating.{Passing}
 use Rattle.net.specs.Net.{first_end, second_end}
-use Prim.Native.Nat.{◌-◌}
 use Rattle.mesh.proofs.repeats.repeat_in.Given as goal
 
 abbrev pub invariant-loop-r : goal.invariant-loop-r
 invariant-loop-r l = Passing (first_end l.s) (second_end l.s) l.from l.limit l.r l.seen
-
-abbrev pub decreases-loop-r : goal.decreases-loop-r
-decreases-loop-r l = l.limit - l.r

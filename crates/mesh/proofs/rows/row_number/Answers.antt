@@ -11,7 +11,13 @@ use mathlib.Core.Path.{◌≡◌, refl, ap, ◌∙◌}
 use mathlib.Core.List.{List}
 use native.Mathlib.Omega.{arith}
 use Rattle.std.proofs.Common.{rules}
-use Rattle.mesh.proofs.rows.row_number.Goals.{After-row_at-q}
+use Rattle.mesh.proofs.rows.row_number.Goals.{
+  After-row_at-q,
+  then-n-a-via-then-n-a,
+  then-n-a-via-else-n-a+then-n-b,
+  then-q-ltminus1000000-via-then-q-ltminus1000000,
+  then-q-ltminus1000000-via-else-q-ltminus1000000+then-q-gt1000000-2,
+}
 use Rattle.mesh.proofs.rows.row_number.Goals as goal
 
 -- the row read is the table's
@@ -44,40 +50,44 @@ held c = let fits : SFits w32 c.row_at-q.result.weight = search rules in to_z-of
 
 pub returns-then-n-a : goal.returns-then-n-a
 returns-then-n-a c =
-    let t = (goal.at.returns-then-n-a c).After-row_at-q in
-    refused (λ n. omega (arith, first t, n.0))
-
-pub returns-then-n-b : goal.returns-then-n-b
-returns-then-n-b c =
-    let t = (goal.at.returns-then-n-b c).After-row_at-q in
-    refused (λ n. omega (arith, second t, n.1))
+    let t = (goal.at.returns-then-n-a c).After-row_at-q in (
+      refused (λ n. elim c.then-n-a.branch [
+        | then-n-a-via-then-n-a w ↦ omega (arith, first t, n.0)
+        | then-n-a-via-else-n-a+then-n-b w ↦ omega (arith, second t, n.1)
+      ]),
+      omega arith,
+    )
 
 pub returns-then-a-b : goal.returns-then-a-b
 returns-then-a-b c =
-    let t = (goal.at.returns-then-a-b c).After-row_at-q in
-    passed (omega (arith, first t), omega (arith, second t)) (refused (λ n. n (omega (arith, first t, second t))))
+    let t = (goal.at.returns-then-a-b c).After-row_at-q in (
+      passed (omega (arith, first t), omega (arith, second t))
+          (refused (λ n. n (omega (arith, first t, second t)))),
+      omega arith,
+    )
 
 pub returns-then-q-gt1000000 : goal.returns-then-q-gt1000000
 returns-then-q-gt1000000 c =
-    let t = (goal.at.returns-then-q-gt1000000 c).After-row_at-q in
-    passed (omega (arith, first t), omega (arith, second t))
-    (passed (λ e. omega (arith, first t, second t, e)) (refused (λ n. omega (arith, long t))))
+    let t = (goal.at.returns-then-q-gt1000000 c).After-row_at-q in (
+      passed (omega (arith, first t), omega (arith, second t))
+          (passed (λ e. omega (arith, first t, second t, e)) (refused (λ n. omega (arith, long t)))),
+      omega arith,
+    )
 
 pub returns-then-q-ltminus1000000 : goal.returns-then-q-ltminus1000000
 returns-then-q-ltminus1000000 c =
-    let t = (goal.at.returns-then-q-ltminus1000000 c).After-row_at-q in
-    passed (omega (arith, first t), omega (arith, second t))
-    (passed (λ e. omega (arith, first t, second t, e))
-    (passed (omega (arith, long t))
-    (refused (λ w. too_low (rw (held t) at c.if-q-ltminus1000000.true) (w (λ e. omega arith))))))
-
-pub returns-then-q-gt1000000-2 : goal.returns-then-q-gt1000000-2
-returns-then-q-gt1000000-2 c =
-    let t = (goal.at.returns-then-q-gt1000000-2 c).After-row_at-q in
-    passed (omega (arith, first t), omega (arith, second t))
-    (passed (λ e. omega (arith, first t, second t, e))
-    (passed (omega (arith, long t))
-    (refused (λ w. too_high (rw (held t) at c.if-q-gt1000000-2.true) (w (λ e. omega arith))))))
+    let t = (goal.at.returns-then-q-ltminus1000000 c).After-row_at-q in (
+      passed (omega (arith, first t), omega (arith, second t))
+          (passed (λ e. omega (arith, first t, second t, e))
+          (passed (omega (arith, long t))
+          (refused (λ within. elim c.then-q-ltminus1000000.branch [
+            | then-q-ltminus1000000-via-then-q-ltminus1000000 w ↦
+                too_low (rw (held t) at w.if-q-ltminus1000000.true) (within (λ e. omega arith))
+            | then-q-ltminus1000000-via-else-q-ltminus1000000+then-q-gt1000000-2 w ↦
+                too_high (rw (held t) at w.if-q-gt1000000-2.true) (within (λ e. omega arith))
+          ])))),
+      omega arith,
+    )
 
 pub returns : goal.returns
 returns c =

@@ -1,10 +1,6 @@
 -- `sweep` meets its contract. The loop's invariant: the nodes at the places below j have their values.
 use Rattle.mesh.proofs.Sweeping.{Sweeping}
-use Prim.Native.Nat.{◌-◌}
 use Rattle.mesh.proofs.sweep.sweep.Given as goal
 
 abbrev pub invariant-loop-j : goal.invariant-loop-j
 invariant-loop-j l = Sweeping l.n l.par l.order l.over l.j l.most l.base l.climb
-
-abbrev pub decreases-loop-j : goal.decreases-loop-j
-decreases-loop-j l = l.n - l.j

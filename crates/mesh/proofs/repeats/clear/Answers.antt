@@ -1,6 +1,0 @@
--- `clear` meets its contract.
-use Rattle.arrays.proofs.Fills.{filled}
-use Rattle.mesh.proofs.repeats.clear.Goals as goal
-
-pub returns : goal.returns
-returns c = filled _ _
