@@ -11,12 +11,11 @@ use lib.ListN.{length}
 use lib.Signed.{◌≤ℤ◌}
 use Rattle.table.specs.Header.{nodes_of, bound_of}
 use Rattle.table.proofs.Refusals.{settled}
-use Rattle.tree.specs.Accept.{Accepts}
-use Rattle.tree.specs.declared.Acceptance.TheVariants.{Accepted}
+use Rattle.tree.specs.Accept.{Accepts, acceptance}
 use Rattle.tree.specs.declared.Refusal.{Refusal}
 use Rattle.tree.proofs.Begins.{begins_rest}
 use Rattle.paging.specs.Paging.{listing_refusal}
-use Rattle.paging.specs.declared.Listed.TheVariants.{Refused}
+use Rattle.std.specs.Prelude.{Err}
 use Rattle.paging.proofs.Demand3.{Lists, JoinsUp, demand_3}
 use Rattle.ground.specs.Considered.{Considered}
 use Rattle.ground.specs.PathOf.{PathOf}
@@ -35,10 +34,10 @@ module _ (Within : ℕ → Type 0) (s marks : List ℕ) (floor : ℤ) where
   }
 
   -- FROM ITS OWN PREMISE: an accepted table, a mark for each branch, any floor, calls that each lend room for a row.
-  module _ (a : Accepts s (Accepted (nodes_of s) (bound_of s))) (m : length marks ≡ nodes_of s - 1) where
+  module _ (a : Accepts s (acceptance (nodes_of s) (bound_of s))) (m : length marks ≡ nodes_of s - 1) where
     -- No such call is refused.
     pub answered : {low high : ℕ} {old bytes : List ℕ} {why : Refusal} → 16 ≤ length old
-        → ListingWithin Within s marks floor low high old (Refused why, bytes) → ⊥
+        → ListingWithin Within s marks floor low high old (Err why, bytes) → ⊥
     answered {old = old} h p = settled h (settled m (begins_rest (listing_refusal old) s a p))
 
     joins_up : JoinsUp (ListingWithin Within s marks floor) (Considered Within s marks (nodes_of s) floor)
@@ -47,7 +46,7 @@ module _ (Within : ℕ → Type 0) (s marks : List ℕ) (floor : ℤ) where
 -- BOTH MODES: of an accepted table with a mark for each branch, the pairs within the bound, and those of exactly its
 -- length.
 module _ (s marks : List ℕ) (floor : ℤ)
-    (a : Accepts s (Accepted (nodes_of s) (bound_of s))) (m : length marks ≡ nodes_of s - 1) where
+    (a : Accepts s (acceptance (nodes_of s) (bound_of s))) (m : length marks ≡ nodes_of s - 1) where
   pub listing_joins_up : JoinsUp (ListingOf s marks floor) (Considered (λ l. l ≤ bound_of s) s marks (nodes_of s) floor)
   listing_joins_up = joins_up (λ l. l ≤ bound_of s) s marks floor a m
 

@@ -9,8 +9,7 @@ use Rattle.table.specs.Header.{nodes_of}
 use Rattle.table.proofs.Refusals.{unless_map}
 use Rattle.tree.proofs.Begins.{begins_alike}
 use Rattle.marks.proofs.Weights.{Alike}
-use Rattle.paging.specs.Paging.{listing_refusal}
-use Rattle.paging.specs.declared.Listed.{Listed}
+use Rattle.paging.specs.Paging.{Listed, listing_refusal}
 use Rattle.paging.proofs.Alike.{gives_iff}
 use Rattle.ground.proofs.Alike.{passes_alike, flip}
 use Rattle.listing.specs.Listing.{GoesOn, ListingWithin}

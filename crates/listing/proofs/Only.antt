@@ -10,8 +10,7 @@ use Rattle.net.specs.work.Net.{Net}
 use Rattle.tree.proofs.Begins.{begins_only, begins_past}
 use Rattle.pages.specs.Passes.{Qualifies}
 use Rattle.pages.specs.Paged.{Paged}
-use Rattle.paging.specs.Paging.{listing_refusal}
-use Rattle.paging.specs.declared.Listed.TheVariants.{Rows}
+use Rattle.paging.specs.Paging.{listing_refusal, listed}
 use Rattle.paging.proofs.Only.{gives_only, not_refused}
 use Rattle.ground.specs.PathOf.{PathOf}
 use Rattle.listing.specs.Listing.{GoesOn, ListingWithin, ListingOf, ListingExactOf}
@@ -35,7 +34,7 @@ listing_exact_only s = listing_within_only _ s
 
 -- what a call that is not refused gives
 pub listing_page : (Within : ℕ → Type 0) (s marks : List ℕ) (floor : ℤ) (low high : ℕ) (old : List ℕ)
-    {written left : ℕ} {bytes : List ℕ} → ListingWithin Within s marks floor low high old (Rows written left, bytes)
+    {written left : ℕ} {bytes : List ℕ} → ListingWithin Within s marks floor low high old (listed written left, bytes)
     → Net s (nodes_of s)
     × Paged (Qualifies (PathOf s marks (nodes_of s)) Within floor (nodes_of s)) low high old written left bytes
 listing_page Within s marks floor low high old p =

@@ -4,8 +4,7 @@ use Rattle.std.specs.Prelude.{ℕ, ◌-◌, ◌≤◌, ◌≡◌, List, ℤ, len
 use Rattle.table.specs.Refuse.{Unless}
 use Rattle.table.specs.Header.{nodes_of, bound_of}
 use Rattle.tree.specs.Accept.{Begins}
-use Rattle.paging.specs.Paging.{listing_refusal, GivesPage}
-use Rattle.paging.specs.declared.Listed.{Listed}
+use Rattle.paging.specs.Paging.{listing_refusal, GivesPage, Listed}
 use Rattle.ground.specs.Considered.{Considered}
 
 -- 13 and 17, then the page, of a net of n nodes under any length test

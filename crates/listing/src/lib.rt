@@ -10,8 +10,9 @@ ghost use Rattle.limits.specs.work.Fits.{Within, Fits};
 ghost use Rattle.listing.specs.Listing.{GoesOn, ListingWithin, ListingOf, ListingExactOf};
 
 use limits::Limit;
-use paging::Listed;
-use tree::{Acceptance, Refusal};
+use paging::{Listed, Rows};
+use reach::Walk;
+use tree::Refusal;
 
 // The pairs strictly after (low, high), within the bound and weighing at least the floor: as many rows of 16 bytes as
 // fit.
@@ -50,33 +51,14 @@ fn listing_in_mode(
     ensures { ListingWithin (Within exact (bound_of s.now)) s.now marks.now floor
         low high rows.old (result, rows.new) }
 {
-    // The walk's arrays, which acceptance uses before there is a walk.
-    let mut parent: [u16; 4096] = [0; 4096];
-    let mut half: [u16; 4096] = [0; 4096];
-    let mut order: [u16; 4096] = [0; 4096];
-    let mut place: [u16; 4096] = [0; 4096];
-    let o = tree::accept_in(s, &mut parent, &mut half, &mut order, &mut place);
-    match o {
-        Acceptance::Refused(why) => Listed::Refused(why),
-        Acceptance::Accepted { nodes, bound } => {
-            let most = arrays::long(bound);
-            let limit = Limit { most, exact };
-            go_on(
-                s,
-                marks,
-                nodes,
-                limit,
-                floor,
-                low,
-                high,
-                &mut parent,
-                &mut half,
-                &mut order,
-                &mut place,
-                rows,
-            )
-        }
-    }
+    // Acceptance uses the walk's arrays before there is a walk.
+    let mut walk = Walk::new();
+    let net = tree::accept_in(s, &mut walk)?;
+    let most = u64::from(net.bound);
+    let limit = Limit { most, exact };
+    go_on(
+        s, marks, net.nodes, limit, floor, low, high, &mut walk, rows,
+    )
 }
 
 // 13 and 17, then the page, of an accepted net. The arrays are lent for its walk.
@@ -88,36 +70,23 @@ fn go_on(
     floor: i64,
     low: u16,
     high: u16,
-    parent: &mut [u16; 4096],
-    half: &mut [u16; 4096],
-    order: &mut [u16; 4096],
-    place: &mut [u16; 4096],
+    walk: &mut Walk,
     rows: &mut [u8],
 ) -> Listed
     requires { Net s.now nodes }
     ensures { GoesOn (Fits limit) s.now nodes marks.now floor low high rows.old
         (result, rows.new) }
 {
-    let n = arrays::wide(nodes);
+    let n = usize::from(nodes);
     if marks.len() != n - 1 {
-        return Listed::Refused(Refusal {
-            number: 13,
-            row: 0,
-            ring: 0,
-        });
+        return Err(Refusal::MARKS);
     }
     if rows.len() < 16 {
-        return Listed::Refused(Refusal {
-            number: 17,
-            row: 0,
-            ring: 0,
-        });
+        return Err(Refusal::NO_ROOM);
     }
-    let k = scan::page(
-        s, marks, nodes, limit, floor, low, high, parent, half, order, place, rows,
-    );
-    Listed::Rows {
+    let k = scan::page(s, marks, nodes, limit, floor, low, high, walk, rows);
+    Ok(Rows {
         written: k.given,
         left: k.left,
-    }
+    })
 }

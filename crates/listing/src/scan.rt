@@ -12,6 +12,7 @@ ghost use Rattle.ground.specs.work.Grounded.{ValueIn};
 use ground::grounded;
 use limits::Limit;
 use pages::{Count, Sums};
+use reach::Walk;
 use table::SUM_END;
 
 // The first nodes in turn, from the start's on. above, len and wt are work arrays of the paths.
@@ -61,10 +62,7 @@ pub(crate) fn page(
     floor: i64,
     low: u16,
     high: u16,
-    parent: &mut [u16; 4096],
-    half: &mut [u16; 4096],
-    order: &mut [u16; 4096],
-    place: &mut [u16; 4096],
+    walk: &mut Walk,
     rows: &mut [u8],
 ) -> Count
     requires { Net s.now nodes }
@@ -73,22 +71,19 @@ pub(crate) fn page(
 {
     let mut bl: [u64; 4096] = [0; 4096];
     let mut bw: [u64; 4096] = [0; 4096];
-    grounded(
-        s, marks, nodes, parent, half, order, place, &mut bl, &mut bw,
-    );
-    let n = arrays::wide(nodes);
+    grounded(s, marks, nodes, walk, &mut bl, &mut bw);
     firsts(
-        parent,
-        order,
-        place,
+        &walk.parent,
+        &walk.order,
+        &walk.place,
         &bl,
         &bw,
-        n,
+        usize::from(nodes),
         limit,
         floor,
-        arrays::wide(low),
-        arrays::wide(high),
-        half,
+        usize::from(low),
+        usize::from(high),
+        &mut walk.half,
         rows,
     )
 }

@@ -2,6 +2,7 @@
 -- going on after the last row given, write the whole listing: every qualifying pair, lower node first, each once, in
 -- order. It is shown once, over what the operation promises of a call and over what its entries must pass; the
 -- operations cite it.
+use Rattle.paging.specs.Paging.{Listed, listed}
 use Prim.Native.Nat.{ℕ, zero, suc, ◌+◌, ◌*◌, ◌≤◌, ◌<◌}
 use mathlib.Core.Path.{◌≡◌, sym, ap, ◌∙◌}
 use mathlib.Core.List.{List, [], ◌++◌, append-nil}
@@ -22,8 +23,7 @@ use Rattle.pages.proofs.Back.{rows_back}
 use Rattle.pages.proofs.Calls.{paged_written}
 use Rattle.pages.proofs.Demand3 as pages
 use Rattle.paging.specs.Asks.{last_low, last_high, Asks, last, next}
-use Rattle.paging.specs.declared.Listed.{Listed}
-use Rattle.paging.specs.declared.Listed.TheVariants.{Rows, Refused}
+use Rattle.std.specs.Prelude.{Ok, Err}
 
 -- what a call that is not refused gives: a page of the entries that pass, of 4,096 nodes at the most, and every such
 -- entry fits a row
@@ -37,7 +37,7 @@ pub record PageGiven (Value : ℕ → ℕ → ℕ → ℤ → Type 0) (Within : 
 -- the outcome
 pub record Lists (Call : ℕ → ℕ → List ℕ → Listed × List ℕ → Type 0) (Value : ℕ → ℕ → ℕ → ℤ → Type 0)
     (Within : ℕ → Type 0) (Heavy : ℤ → Type 0) (n : ℕ) : Type 0 where
-  pub gives : {low high written left : ℕ} {old bytes : List ℕ} → Call low high old (Rows written left, bytes)
+  pub gives : {low high written left : ℕ} {old bytes : List ℕ} → Call low high old (listed written left, bytes)
       → PageGiven Value Within Heavy n low high old written left bytes
 
 -- where each call has an outcome, as the code's contract gives one, the calls from (0, 0) come to an end, none of them
@@ -58,7 +58,7 @@ pub record Given (Call : ℕ → ℕ → List ℕ → Listed × List ℕ → Typ
   pub written : ℕ
   pub left : ℕ
   pub bytes : List ℕ
-  pub is : Call low high old (Rows written left, bytes)
+  pub is : Call low high old (listed written left, bytes)
 
 -- calls from (low, high) that come to the end
 abbrev pub AskedFrom : (ℕ → ℕ → List ℕ → Listed × List ℕ → Type 0) → ℕ → ℕ → Type 0
@@ -111,27 +111,27 @@ module _ {Call : ℕ → ℕ → List ℕ → Listed × List ℕ → Type 0} {Va
 
   -- At each call rows written and rows left add up to what follows its starting pair.
   pub add_up : {low high written left : ℕ} {old bytes : List ℕ} {whole : List Entry}
-      → Call low high old (Rows written left, bytes) → Listing (Following (Passes Value Within Heavy n) low high) whole
+      → Call low high old (listed written left, bytes) → Listing (Following (Passes Value Within Heavy n) low high) whole
       → written + left ≡ length whole
   add_up p w = pages.calls_add_up (lists.gives p).page w
 
   -- Each call leaves fewer than the one before.
   pub fewer_left : {low high written left written₂ left₂ : ℕ} {old bytes old₂ bytes₂ : List ℕ} → 16 ≤ length old
-      → Call low high old (Rows written left, bytes) → 0 < left → 16 ≤ length old₂
-      → Call (last_low written bytes) (last_high written bytes) old₂ (Rows written₂ left₂, bytes₂) → left₂ < left
+      → Call low high old (listed written left, bytes) → 0 < left → 16 ≤ length old₂
+      → Call (last_low written bytes) (last_high written bytes) old₂ (listed written₂ left₂, bytes₂) → left₂ < left
   fewer_left h p l h₂ q =
       let g = lists.gives p in
       pages.fewer_left (omega (arith, g.few)) h g.page l h₂ (lists.gives q).page
 
   -- A call writes at least one row where some pair follows its start: no page is empty before the listing's end.
   pub writes_some : {low high written left : ℕ} {old bytes : List ℕ} → 16 ≤ length old
-      → Call low high old (Rows written left, bytes) → (e : Entry)
+      → Call low high old (listed written left, bytes) → (e : Entry)
       → Following (Passes Value Within Heavy n) low high e → 0 < written
   writes_some h p e f = pages.calls_some h (lists.gives p).page f
 
   -- nothing left: this call is the last
   ends : {low high written left : ℕ} {old bytes : List ℕ} → 16 ≤ length old → left ≡ 0
-      → Call low high old (Rows written left, bytes) → AskedFrom Call low high
+      → Call low high old (listed written left, bytes) → AskedFrom Call low high
   ends {written = written} {bytes = bytes} h e p = (take (16 * written) bytes, last h (rw e at p))
 
   -- Where every call from two 16-bit numbers gives rows, calls from any such start come to the end, whatever each of
@@ -165,11 +165,11 @@ module _ {Call : ℕ → ℕ → List ℕ → Listed × List ℕ → Type 0} {Va
 
   -- WHERE NO CALL that lends room for a row is refused.
   module _ (answered : (low high : ℕ) (old bytes : List ℕ) (why : Refusal) → 16 ≤ length old
-      → Call low high old (Refused why, bytes) → ⊥) where
+      → Call low high old (Err why, bytes) → ⊥) where
     given : {low high : ℕ} {old : List ℕ} (x : Listed × List ℕ) → 16 ≤ length old → Call low high old x
         → Given Call low high old
-    given (Rows written left, bytes) h p = record { written = written; left = left; bytes = bytes; is = p }
-    given (Refused why, bytes) h p = absurd (answered _ _ _ _ _ h p)
+    given (Ok o, bytes) h p = record { written = o.written; left = o.left; bytes = bytes; is = p }
+    given (Err why, bytes) h p = absurd (answered _ _ _ _ _ h p)
 
     pub demand_3 : JoinsUp Call (Passes Value Within Heavy n)
     demand_3 lent enough call =

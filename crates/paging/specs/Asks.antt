@@ -1,8 +1,7 @@
 -- A caller that asks for one list, call after call, of any operation that lists.
 use Rattle.std.specs.Prelude.{ℕ, ◌+◌, ◌-◌, ◌*◌, ◌≤◌, ◌<◌, List, [], ◌∷◌, ◌++◌, length, take}
 use Rattle.table.specs.Bytes.{u16_at}
-use Rattle.paging.specs.declared.Listed.{Listed}
-use Rattle.paging.specs.declared.Listed.TheVariants.{Rows}
+use Rattle.paging.specs.Paging.{Listed, listed}
 
 -- the two nodes of the last of the rows that a call wrote into lent bytes
 abbrev pub last_low : ℕ → List ℕ → ℕ
@@ -15,10 +14,10 @@ last_high written bytes = u16_at bytes (16 * (written - 1) + 2)
 -- many), each going on after the last row given; joined is all the bytes that they wrote. Call is what the operation
 -- promises of a call: its starting pair, the lent bytes, and the outcome
 pub data Asks (Call : ℕ → ℕ → List ℕ → Listed × List ℕ → Type 0) : (low high : ℕ) (joined : List ℕ) → Type 0 where
-  last : {low high written : ℕ} {old bytes : List ℕ} → 16 ≤ length old → Call low high old (Rows written 0, bytes)
+  last : {low high written : ℕ} {old bytes : List ℕ} → 16 ≤ length old → Call low high old (listed written 0, bytes)
       → Asks Call low high (take (16 * written) bytes)
   next : {low high written left : ℕ} {old bytes later : List ℕ} → 16 ≤ length old
-      → Call low high old (Rows written left, bytes) → 0 < left
+      → Call low high old (listed written left, bytes) → 0 < left
       → Asks Call (last_low written bytes) (last_high written bytes) later
       → Asks Call low high (take (16 * written) bytes ++ later)
 

@@ -3,9 +3,12 @@
 
 use tree::Refusal;
 
-// The rows written and the rows left over, or why not.
-#[derive(Drop)]
-pub enum Listed {
-    Rows { written: usize, left: usize },
-    Refused(Refusal),
+// The rows written and the rows left over.
+#[derive(Clone, Copy)]
+pub struct Rows {
+    pub written: usize,
+    pub left: usize,
 }
+
+// The same, or why not.
+pub type Listed = Result<Rows, Refusal>;

@@ -10,17 +10,17 @@ use Rattle.net.specs.work.Net.{Net}
 use Rattle.net.proofs.Values.{length_only, weight_only}
 use Rattle.tree.proofs.Begins.{begins_net_only}
 use Rattle.spines.proofs.HopsBound.{hops_only}
-use Rattle.pair.specs.Pair.{pair_refusal, ShowsPath, Measures, PairOf}
-use Rattle.pair.specs.declared.PairAnswer.TheVariants.{Found, Refused}
+use Rattle.pair.specs.Pair.{pair_refusal, ShowsPath, Measures, PairOf, found}
+use Rattle.std.specs.Prelude.{Ok, Err}
 
 shows_only : (s marks : List ℕ) (n a b : ℕ) → Net s n → Only (ShowsPath s marks n a b)
-shows_only s marks n a b t (Found l w h) (Found l' w' h') p q =
-    let e : l ≡ l' = length_only (first_end s) (second_end s) t.forest p.0 q.0 in
-    let f : w ≡ w' = weight_only (first_end s) (second_end s) t.forest p.0 q.0 in
-    let g : h ≡ h' = hops_only t.forest p.1 q.1 in
-    λ i. Found (e i) (f i) (g i)
-shows_only s marks n a b t (Found l w h) (Refused why) p q = absurd q
-shows_only s marks n a b t (Refused why) y p q = absurd p
+shows_only s marks n a b t (Ok o) (Ok o') p q =
+    let e : o.length ≡ o'.length = length_only (first_end s) (second_end s) t.forest p.0 q.0 in
+    let f : o.weight ≡ o'.weight = weight_only (first_end s) (second_end s) t.forest p.0 q.0 in
+    let g : o.hops ≡ o'.hops = hops_only t.forest p.1 q.1 in
+    λ i. found (e i) (f i) (g i)
+shows_only s marks n a b t (Ok o) (Err why) p q = absurd q
+shows_only s marks n a b t (Err why) y p q = absurd p
 
 pub measures_only : (s marks : List ℕ) (n a b : ℕ) → Net s n → Only (Measures s marks n a b)
 measures_only s marks n a b t = unless_only (unless_only (shows_only s marks n a b t))

@@ -21,9 +21,8 @@ use Rattle.tree.specs.work.Meet.{Meets}
 use Rattle.tree.proofs.Meeting.{walk_rises}
 use Rattle.spines.specs.work.Parents.{HeadsAll, Spined, HopsBy}
 use Rattle.ground.specs.PathOf.{PathOf}
-use Rattle.pair.specs.Pair.{ShowsPath}
+use Rattle.pair.specs.Pair.{ShowsPath, found}
 use Rattle.pair.specs.work.Way.{WayOf}
-use Rattle.pair.specs.declared.PairAnswer.TheVariants.{Found}
 
 -- up the one climb and down the other
 pub way_both : {s marks : List ℕ} {n : ℕ} {parent half place : List ℕ} {x y t l l' q q' k k' : ℕ} → Net s n
@@ -69,7 +68,7 @@ module _ {s parent half order place : List ℕ} {n x y nodes a b : ℕ} (e : n �
     pub pair_short : l ≤ 4095000000
     pair_short = path_short N two.first path
 
-    pub pair_shown : {h : ℕ} → HopsBy n parent place x y h → ShowsPath s marks nodes a b (Found l w h)
+    pub pair_shown : {h : ℕ} → HopsBy n parent place x y h → ShowsPath s marks nodes a b (found l w h)
     pair_shown {h} p =
         let k : HopsBy nodes parent place a b h = rw (e, ex, ey) at p in
         (path, k.hops (first_end s) (second_end s) (nodes - 1) (row_of half) (walk_rooted N W))

@@ -16,21 +16,20 @@ use Rattle.spines.specs.Spine.{ChildOf, Leaf}
 use Rattle.spines.specs.FloorLog.{FloorLog}
 use Rattle.spines.proofs.HopsBound.{hops_flip}
 use Rattle.spines.proofs.Theorems.{hops_at_most}
-use Rattle.pair.specs.Pair.{pair_refusal, ShowsPath, Measures, PairOf}
-use Rattle.pair.specs.declared.PairAnswer.{PairAnswer}
-use Rattle.pair.specs.declared.PairAnswer.TheVariants.{Found, Refused}
+use Rattle.pair.specs.Pair.{PairAnswer, pair_refusal, ShowsPath, Measures, PairOf, found}
+use Rattle.std.specs.Prelude.{Ok, Err}
 use Rattle.pair.proofs.Only.{measures_only}
 
 abbrev taken : PairAnswer → ℕ
-taken (Found l w h) = 1
-taken (Refused why) = 0
+taken (Ok o) = 1
+taken (Err why) = 0
 
-module _ (s marks : List ℕ) (a b : ℕ) {l h : ℕ} {w : ℤ} (p : PairOf s marks a b (Found l w h)) where
-  plain : (k r g : ℕ) → pair_refusal k r g ≡ Found l w h → ⊥
+module _ (s marks : List ℕ) (a b : ℕ) {l h : ℕ} {w : ℤ} (p : PairOf s marks a b (found l w h)) where
+  plain : (k r g : ℕ) → pair_refusal k r g ≡ found l w h → ⊥
   plain k r g e = omega (arith, ap taken e)
 
   -- an answer that is no refusal shows the path between two different nodes of an accepted net
-  pub pair_shows : Net s (nodes_of s) × TwoNodes (nodes_of s) a b × ShowsPath s marks (nodes_of s) a b (Found l w h)
+  pub pair_shows : Net s (nodes_of s) × TwoNodes (nodes_of s) a b × ShowsPath s marks (nodes_of s) a b (found l w h)
   pair_shows =
       let n = begins_past pair_refusal s plain p in
       let r = past (plain 15 0 0) (past (plain 13 0 0) n.1).1 in
@@ -44,8 +43,8 @@ module _ (s marks : List ℕ) (a b : ℕ) {l h : ℕ} {w : ℤ} (p : PairOf s ma
 
 -- Either order
 shows_flip : (s marks : List ℕ) (n a b : ℕ) (x : PairAnswer) → ShowsPath s marks n a b x → ShowsPath s marks n b a x
-shows_flip s marks n a b (Found l w h) p = (value_flip (first_end s) (second_end s) p.0, hops_flip p.1)
-shows_flip s marks n a b (Refused why) p = p
+shows_flip s marks n a b (Ok o) p = (value_flip (first_end s) (second_end s) p.0, hops_flip p.1)
+shows_flip s marks n a b (Err why) p = p
 
 measures_flip : (s marks : List ℕ) {n a b : ℕ} {x : PairAnswer} → Measures s marks n a b x → Measures s marks n b a x
 measures_flip s marks {n} {a} {b} {x} =

@@ -10,133 +10,85 @@ ghost use Rattle.pair.specs.Pair.{ShowsPath, Measures, PairOf};
 ghost use Rattle.pair.specs.work.Way.{WayOf};
 
 use marks::measure_climb;
-use tree::{Acceptance, Refusal};
+use reach::Walk;
+use tree::Refusal;
 
-// What pair gives: length, weight and hops, or why not.
-#[derive(Drop)]
-pub enum PairAnswer {
-    Found { length: u32, weight: i64, hops: u16 },
-    Refused(Refusal),
+// A path's length, weight and hops.
+#[derive(Clone, Copy)]
+pub struct Found {
+    pub length: u32,
+    pub weight: i64,
+    pub hops: u16,
 }
+
+// What pair gives.
+pub type PairAnswer = Result<Found, Refusal>;
 
 // The path between a and b.
 pub fn pair(s: &[u8], marks: &[u16], a: u16, b: u16) -> PairAnswer
     ensures { PairOf s.now marks.now a b result }
 {
-    // The walk's arrays, which acceptance uses before there is a walk.
-    let mut parent: [u16; 4096] = [0; 4096];
-    let mut half: [u16; 4096] = [0; 4096];
-    let mut order: [u16; 4096] = [0; 4096];
-    let mut place: [u16; 4096] = [0; 4096];
-    let o = tree::accept_in(s, &mut parent, &mut half, &mut order, &mut place);
-    match o {
-        Acceptance::Refused(why) => PairAnswer::Refused(why),
-        Acceptance::Accepted { nodes, bound: _ } => measure(
-            s,
-            marks,
-            nodes,
-            a,
-            b,
-            &mut parent,
-            &mut half,
-            &mut order,
-            &mut place,
-        ),
-    }
+    // Acceptance uses the walk's arrays before there is a walk.
+    let mut walk = Walk::new();
+    let net = tree::accept_in(s, &mut walk)?;
+    measure(s, marks, net.nodes, a, b, &mut walk)
 }
 
 // 13 and 15, then the path, of an accepted net.
-fn measure(
-    s: &[u8],
-    marks: &[u16],
-    nodes: u16,
-    a: u16,
-    b: u16,
-    parent: &mut [u16; 4096],
-    half: &mut [u16; 4096],
-    order: &mut [u16; 4096],
-    place: &mut [u16; 4096],
-) -> PairAnswer
+fn measure(s: &[u8], marks: &[u16], nodes: u16, a: u16, b: u16, walk: &mut Walk) -> PairAnswer
     requires { Net s.now nodes }
     ensures { Measures s.now marks.now nodes a b result }
 {
-    let n = arrays::wide(nodes);
+    let n = usize::from(nodes);
     if marks.len() != n - 1 {
-        return PairAnswer::Refused(Refusal {
-            number: 13,
-            row: 0,
-            ring: 0,
-        });
+        return Err(Refusal::MARKS);
     }
     if nodes <= a || nodes <= b || a == b {
-        return PairAnswer::Refused(Refusal {
-            number: 15,
-            row: 0,
-            ring: 0,
-        });
+        return Err(Refusal::NODES);
     }
-    show(s, marks, nodes, a, b, parent, half, order, place)
+    show(s, marks, nodes, a, b, walk)
 }
 
 // The path between two different nodes.
-fn show(
-    s: &[u8],
-    marks: &[u16],
-    nodes: u16,
-    a: u16,
-    b: u16,
-    parent: &mut [u16; 4096],
-    half: &mut [u16; 4096],
-    order: &mut [u16; 4096],
-    place: &mut [u16; 4096],
-) -> PairAnswer
+fn show(s: &[u8], marks: &[u16], nodes: u16, a: u16, b: u16, walk: &mut Walk) -> PairAnswer
     requires { Net s.now nodes × (length marks.now ≡ nodes - 1) × TwoNodes nodes a b }
     ensures { ShowsPath s.now marks.now nodes a b result }
 {
     let mut head: [u16; 4096] = [0; 4096];
-    let n = arrays::wide(nodes);
-    let x = arrays::wide(a);
-    let y = arrays::wide(b);
-    tree::walk(s, nodes, parent, half, order, place);
-    let way = way_between(s, marks, parent, half, place, n, x, y);
+    let n = usize::from(nodes);
+    let x = usize::from(a);
+    let y = usize::from(b);
+    tree::walk(s, nodes, walk);
+    let way = way_between(s, marks, walk, n, x, y);
     // No climb reads rows any more: the main children stand where the half-branches were.
-    spines::heads_of(parent, order, n, half, &mut head);
-    let hops = spines::hops(parent, place, &head, n, x, y);
+    spines::heads_of(&walk.parent, &walk.order, n, &mut walk.half, &mut head);
+    let hops = spines::hops(&walk.parent, &walk.place, &head, n, x, y);
     let weight = table::lowered(way.weight);
-    PairAnswer::Found {
+    Ok(Found {
         length: way.length as u32,
         weight,
         hops,
-    }
+    })
 }
 
 // The length of a path and its weight, lifted by 2^33.
-#[derive(Drop)]
+#[derive(Clone, Copy)]
 struct Way {
     length: u64,
     weight: u64,
 }
 
 // The path from x to y, by the climbs of both to where they meet.
-fn way_between(
-    s: &[u8],
-    marks: &[u16],
-    parent: &[u16; 4096],
-    half: &[u16; 4096],
-    place: &[u16; 4096],
-    n: usize,
-    x: usize,
-    y: usize,
-) -> Way
+fn way_between(s: &[u8], marks: &[u16], walk: &Walk, n: usize, x: usize, y: usize) -> Way
     requires { Net s.now n
         × (length marks.now ≡ n - 1)
         × TwoNodes n x y
-        × WalkOf s.now n parent.now half.now place.now }
+        × WalkOf s.now n walk.now.parent walk.now.half walk.now.place }
     ensures { WayOf s.now marks.now n x y result.length result.weight }
 {
-    let t = tree::meet(parent, place, n, x, y);
-    let ups = measure_climb(s, marks, parent, half, place, x, t);
-    let downs = measure_climb(s, marks, parent, half, place, y, t);
+    let t = tree::meet(&walk.parent, &walk.place, n, x, y);
+    let ups = measure_climb(s, marks, walk, x, t);
+    let downs = measure_climb(s, marks, walk, y, t);
     let length = ups.length + downs.length;
     let weight = ups.weight + downs.weight - table::SUM_LIFT;
     Way { length, weight }

@@ -8,18 +8,10 @@ use Rattle.listing.proofs.scan.page.Goals as goal
 
 pub firsts-requires : goal.firsts-requires
 firsts-requires c =
-    let wide-ensures = c.wide-n.ensures in
     let grounded-ensures = c.grounded.ensures in
-    (rw wide-ensures.0 (ground grounded-ensures), grounded-ensures.walked.long.1)
+    (rw c.from.ensures (ground grounded-ensures), grounded-ensures.walked.long.1)
 
 pub returns : goal.returns
 returns c =
-    let wide3-ensures = c.wide-2.ensures in
-    let wide2-ensures = c.wide.ensures in
-    let wide-ensures = c.wide-n.ensures in
-    let grounded-ensures = c.grounded.ensures in
-    let args = c.args in
-    let fits = c.ranges in
-    let e = to_z-of_z w64 args.floor fits.floor in
-    scanned wide-ensures.0 grounded-ensures
-    (rw (e, wide2-ensures.0, wide3-ensures.0) at c.firsts.ensures)
+    let e = to_z-of_z w64 c.args.floor c.ranges.floor in
+    scanned c.from.ensures c.grounded.ensures (rw (e, c.from-2.ensures, c.from-3.ensures) at c.firsts.ensures)
