@@ -10,15 +10,14 @@ use lib.ListN.{length}
 use Rattle.table.specs.Header.{nodes_of, bound_of}
 use Rattle.table.proofs.Refusals.{settled}
 use Rattle.net.specs.work.Net.{Net}
-use Rattle.tree.specs.Accept.{Accepts}
-use Rattle.tree.specs.declared.Acceptance.TheVariants.{Accepted}
+use Rattle.tree.specs.Accept.{Accepts, acceptance}
 use Rattle.tree.specs.declared.Refusal.{Refusal}
 use Rattle.tree.proofs.Begins.{begins_rest}
 use Rattle.pages.specs.Listing.{Entry}
 use Rattle.pages.specs.work.RowFits.{RowFits}
 use Rattle.pages.proofs.Qualifying.{passes_map}
 use Rattle.paging.specs.Paging.{listing_refusal}
-use Rattle.paging.specs.declared.Listed.TheVariants.{Refused}
+use Rattle.std.specs.Prelude.{Err}
 use Rattle.paging.proofs.Demand3.{Lists, JoinsUp, demand_3}
 use Rattle.ground.specs.PathOf.{PathOf}
 use Rattle.ground.proofs.Bounds.{passes_fits}
@@ -44,10 +43,10 @@ module _ (s marks : List ℕ) (w : Window) where
 
   -- FROM ITS OWN PREMISE: an accepted table, a mark for each branch, a window whose limits are in order, calls that
   -- each lend room for a row.
-  module _ (a : Accepts s (Accepted (nodes_of s) (bound_of s))) (m : length marks ≡ nodes_of s - 1) (o : Proper w) where
+  module _ (a : Accepts s (acceptance (nodes_of s) (bound_of s))) (m : length marks ≡ nodes_of s - 1) (o : Proper w) where
     -- No such call is refused.
     pub answered : {low high : ℕ} {old bytes : List ℕ} {why : Refusal} → 16 ≤ length old
-        → WindowListOf s marks w low high old (Refused why, bytes) → ⊥
+        → WindowListOf s marks w low high old (Err why, bytes) → ⊥
     answered {old = old} h p = settled h (settled o (settled m (begins_rest (listing_refusal old) s a p)))
 
     pub window_list_joins_up : JoinsUp (WindowListOf s marks w) (AsMany s marks (nodes_of s) w)

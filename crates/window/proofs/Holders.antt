@@ -10,14 +10,12 @@ use Rattle.tree.proofs.Begins.{begins_alike}
 use Rattle.marks.proofs.Weights.{Alike}
 use Rattle.pages.specs.Listing.{Entry}
 use Rattle.pages.proofs.Qualifying.{passes_map}
-use Rattle.paging.specs.Paging.{listing_refusal}
-use Rattle.paging.specs.declared.Listed.{Listed}
+use Rattle.paging.specs.Paging.{listing_refusal, Listed}
 use Rattle.paging.proofs.Alike.{gives_iff}
 use Rattle.ground.proofs.Alike.{value_alike, path_alike, flip}
-use Rattle.window.specs.Window.{Window, InWindow, window_refusal, GivesMost, Picks, WindowOf}
+use Rattle.window.specs.Window.{WindowAnswer, Window, InWindow, window_refusal, GivesMost, Picks, WindowOf}
 use Rattle.window.specs.List.{AsMany, ListsMost, WindowListOf}
-use Rattle.window.specs.declared.WindowAnswer.{WindowAnswer}
-use Rattle.window.specs.declared.WindowAnswer.TheVariants.{Most, Refused}
+use Rattle.std.specs.Prelude.{Ok, Err}
 use Rattle.window.proofs.Bettering.{most_iff}
 use Rattle.window.proofs.Only.{picks_only, lists_only}
 
@@ -40,8 +38,8 @@ many_alike s marks marks' h w n e =
 
 gives_alike : {P Q : Entry → Type 0} → ((e : Entry) → P e → Q e) → ((e : Entry) → Q e → P e)
     → (x : WindowAnswer) → GivesMost P x → GivesMost Q x
-gives_alike f g (Most a b c x) p = most_iff f g p
-gives_alike f g (Refused why) p = p
+gives_alike f g (Ok o) p = most_iff f g p
+gives_alike f g (Err why) p = p
 
 module _ (s marks marks' : List ℕ) (h : Alike marks marks') (e : length marks ≡ length marks') (w : Window) where
   picks_alike : {n : ℕ} {x : WindowAnswer} → Picks s n marks w x → Picks s n marks' w x

@@ -16,20 +16,11 @@ use Rattle.pages.specs.Listing.{entry}
 use Rattle.pages.specs.Paged.{Paged}
 use Rattle.pages.proofs.Order.{one_pair}
 use Rattle.paging.specs.Paging.{listing_refusal}
-use Rattle.paging.specs.declared.Listed.TheVariants as listed
+use Rattle.paging.specs.Paging.{listed}
 use Rattle.paging.proofs.Only.{gives_only, not_refused}
-use Rattle.window.specs.Window.{
-  Window,
-  BranchCount,
-  InWindow,
-  MostOf,
-  window_refusal,
-  GivesMost,
-  Picks,
-  WindowOf,
-}
+use Rattle.window.specs.Window.{Window, BranchCount, InWindow, MostOf, window_refusal, GivesMost, Picks, WindowOf, given_most}
 use Rattle.window.specs.List.{AsMany, ListsMost, WindowListOf}
-use Rattle.window.specs.declared.WindowAnswer.TheVariants.{Most, Refused}
+use Rattle.std.specs.Prelude.{Ok, Err}
 
 module _ (s marks : List ℕ) (w : Window) {n : ℕ} (net : Net s n) where
   pub most_only : Only (MostOf (InWindow s marks n w))
@@ -41,11 +32,11 @@ module _ (s marks : List ℕ) (w : Window) {n : ℕ} (net : Net s n) where
       λ i. record { low = c.0 i; high = c.1 i; length = l i; weight = x i }
 
   gives_most_only : Only (GivesMost (InWindow s marks n w))
-  gives_most_only (Most a b c x) (Most d e f y) p q =
-      let o = most_only (entry a b c x) (entry d e f y) p q in
-      λ i. Most (o i).low (o i).high (o i).length (o i).weight
-  gives_most_only (Most a b c x) (Refused why) p q = absurd q
-  gives_most_only (Refused why) y p q = absurd p
+  gives_most_only (Ok x) (Ok y) p q =
+      let o = most_only (entry x.low x.high x.count x.weight) (entry y.low y.high y.count y.weight) p q in
+      λ i. given_most (o i).low (o i).high (o i).length (o i).weight
+  gives_most_only (Ok x) (Err why) p q = absurd q
+  gives_most_only (Err why) y p q = absurd p
 
   pub picks_only : Only (Picks s n marks w)
   picks_only = unless_only (unless_only (unless_only gives_most_only))
@@ -64,7 +55,7 @@ window_list_only s marks w low high old =
 
 -- what a call that is not refused gives
 pub window_list_page : (s marks : List ℕ) (w : Window) (low high : ℕ) (old : List ℕ) {written left : ℕ}
-    {bytes : List ℕ} → WindowListOf s marks w low high old (listed.Rows written left, bytes)
+    {bytes : List ℕ} → WindowListOf s marks w low high old (listed written left, bytes)
     → Net s (nodes_of s) × Paged (AsMany s marks (nodes_of s) w) low high old written left bytes
 window_list_page s marks w low high old p =
     let n = begins_past (listing_refusal old) s (not_refused old) p in (

@@ -15,25 +15,14 @@ use Rattle.table.specs.Header.{nodes_of, bound_of}
 use Rattle.table.proofs.Refusals as refusals
 use Rattle.net.specs.Path.{Sum}
 use Rattle.net.specs.work.Net.{Net}
-use Rattle.tree.specs.Accept.{Accepts}
-use Rattle.tree.specs.declared.Acceptance.TheVariants.{Accepted}
+use Rattle.tree.specs.Accept.{Accepts, acceptance}
 use Rattle.tree.proofs.Begins.{begins_past, begins_rest}
 use Rattle.pages.specs.Listing.{Entry, entry, After, first, second, Listing}
 use Rattle.pages.proofs.Rising.{rising_head}
 use Rattle.ground.specs.PathOf.{PathOf}
-use Rattle.window.specs.Window.{
-  Window,
-  Proper,
-  BranchCount,
-  InWindow,
-  MostOf,
-  window_refusal,
-  Picks,
-  WindowOf,
-}
+use Rattle.window.specs.Window.{WindowAnswer, Window, Proper, BranchCount, InWindow, MostOf, window_refusal, Picks, WindowOf, given_most}
 use Rattle.window.specs.List.{AsMany}
-use Rattle.window.specs.declared.WindowAnswer.{WindowAnswer}
-use Rattle.window.specs.declared.WindowAnswer.TheVariants.{Most, Refused}
+use Rattle.std.specs.Prelude.{Ok, Err}
 use Rattle.window.proofs.Counting.{length_of_lem}
 
 -- A COUNT IS THE NUMBER OF BRANCHES on the path
@@ -45,12 +34,12 @@ pub count_is : (s marks : List ℕ) (n : ℕ) {a b c : ℕ} {w : ℤ} (p : Branc
 count_is s marks n p = omega (arith, p.length, ones_sum p.rows)
 
 abbrev taken : WindowAnswer → ℕ
-taken (Most a b c w) = 1
-taken (Refused why) = 0
+taken (Ok o) = 1
+taken (Err why) = 0
 
 abbrev number_in : WindowAnswer → ℕ
-number_in (Most a b c w) = 0
-number_in (Refused why) = why.number
+number_in (Ok o) = 0
+number_in (Err why) = why.number
 
 module _ (s marks : List ℕ) (w : Window) where
   -- the pairs in the window of the table's net, and those that the list considers
@@ -62,25 +51,25 @@ module _ (s marks : List ℕ) (w : Window) where
 
   -- THE PAIR FOUND. Where nothing is refused, the answer is a pair in the window, no pair in it has more branches, and
   -- none that has as many is earlier
-  answer_is : {a b c : ℕ} {x : ℤ} → WindowOf s marks w (Most a b c x)
+  answer_is : {a b c : ℕ} {x : ℤ} → WindowOf s marks w (given_most a b c x)
       → Net s (nodes_of s) × MostOf Inside (entry a b c x)
   answer_is {a} {b} {c} {x} p =
-      let plain : (k r g : ℕ) → window_refusal k r g ≡ Most a b c x → ⊥ = λ k r g e. omega (arith, ap taken e) in
+      let plain : (k r g : ℕ) → window_refusal k r g ≡ given_most a b c x → ⊥ = λ k r g e. omega (arith, ap taken e) in
       let n = begins_past window_refusal s plain p in (
         n.0,
         (refusals.past (plain 31 0 0)
             (refusals.past (plain 30 0 0) (refusals.past (plain 13 0 0) n.1).1).1).1,
       )
 
-  pub found_most : {a b c : ℕ} {x : ℤ} → WindowOf s marks w (Most a b c x) → MostOf Inside (entry a b c x)
+  pub found_most : {a b c : ℕ} {x : ℤ} → WindowOf s marks w (given_most a b c x) → MostOf Inside (entry a b c x)
   found_most p = (answer_is p).1
 
-  pub none_more : {a b c : ℕ} {x : ℤ} → WindowOf s marks w (Most a b c x) → (f : Entry) → Inside f → f.length ≤ c
+  pub none_more : {a b c : ℕ} {x : ℤ} → WindowOf s marks w (given_most a b c x) → (f : Entry) → Inside f → f.length ≤ c
   none_more p f h = (found_most p).most f h
 
   -- 31 EXACTLY. An accepted table with a mark for each branch and limits in order is refused by 31 exactly if no pair
   -- is in the window; and by 30 exactly if they are not in order
-  module _ (a : Accepts s (Accepted (nodes_of s) (bound_of s))) (m : length marks ≡ nodes_of s - 1) (o : WindowAnswer)
+  module _ (a : Accepts s (acceptance (nodes_of s) (bound_of s))) (m : length marks ≡ nodes_of s - 1) (o : WindowAnswer)
       (p : WindowOf s marks w o) where
     pub thirty_one_exactly : Proper w → (o ≡ window_refusal 31 0 0) ↔ ((e : Entry) → ¬ Inside e)
     thirty_one_exactly k = let g = begins_rest window_refusal s a p in (only o g, if o g)
@@ -114,7 +103,7 @@ module _ (s marks : List ℕ) (w : Window) where
         only o (passed i (passed j (passed r g))) z k = absurd (rw z at g)
 
   -- THE LIST BESIDE THE PAIR FOUND
-  module _ {a b c : ℕ} {x : ℤ} (p : WindowOf s marks w (Most a b c x)) where
+  module _ {a b c : ℕ} {x : ℤ} (p : WindowOf s marks w (given_most a b c x)) where
     -- its pairs are exactly those in the window with the count that was found, each with its path's length and weight
     pub same_count : (e : Entry)
         → InList e

@@ -7,8 +7,7 @@ use Rattle.tree.specs.Accept.{Begins}
 use Rattle.pages.specs.Listing.{Entry, entry}
 use Rattle.pages.specs.Passes.{Passes}
 use Rattle.ground.specs.PathOf.{PathOf}
-use Rattle.paging.specs.Paging.{listing_refusal, GivesPage}
-use Rattle.paging.specs.declared.Listed.{Listed}
+use Rattle.paging.specs.Paging.{listing_refusal, GivesPage, Listed}
 use Rattle.window.specs.Window.{Window, Proper, InWindow}
 
 -- the path from a to b has this wire length and this weight; with its branch count the pair is in the window, and no

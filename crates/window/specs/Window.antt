@@ -1,6 +1,6 @@
 -- The operation window: refusals 1 to 11, then 13, 30 and 31; then, of the pairs whose branch count lies between two
 -- positive limits and whose weight between two sums, the one with the most branches, and among equals the earlier pair.
-use Rattle.std.specs.Prelude.{ℕ, ◌-◌, ◌≤◌, ◌<◌, ◌≡◌, List, ℤ, length, ◌≤ℤ◌}
+use Rattle.std.specs.Prelude.{ℕ, ◌-◌, ◌≤◌, ◌<◌, ◌≡◌, List, ℤ, length, ◌≤ℤ◌, Result, Ok, Err}
 use Rattle.table.specs.Refuse.{Unless}
 use Rattle.table.specs.Header.{nodes_of}
 use Rattle.net.specs.Net.{first_end, second_end}
@@ -9,8 +9,8 @@ use Rattle.marks.specs.Weighs.{weight_under}
 use Rattle.tree.specs.Accept.{Begins}
 use Rattle.pages.specs.Listing.{Entry, entry, Before}
 use Rattle.pages.specs.Passes.{Passes}
-use Rattle.window.specs.declared.WindowAnswer.{WindowAnswer}
-use Rattle.window.specs.declared.WindowAnswer.TheVariants.{Most, Refused}
+use Rattle.tree.specs.declared.Refusal.{Refusal}
+use Rattle.window.specs.declared.Most.{Most}
 
 -- two limits of the branch count and two sums
 pub record Window : Type 0 where
@@ -49,12 +49,19 @@ pub record MostOf (P : Entry → Type 0) (e : Entry) : Type 0 where
   pub most : (f : Entry) → P f → f.length ≤ e.length
   pub earliest : (f : Entry) → P f → f.length ≡ e.length → ¬ Before f e
 
+-- the run with the most branches: its nodes, branch count and weight; or why none
+abbrev pub WindowAnswer : Type 0
+WindowAnswer = Result Most Refusal
+
+abbrev pub given_most : ℕ → ℕ → ℕ → ℤ → WindowAnswer
+given_most a b c w = Ok (record { low = a; high = b; count = c; weight = w })
+
 abbrev pub window_refusal : ℕ → ℕ → ℕ → WindowAnswer
-window_refusal k r g = Refused (record { number = k; row = r; ring = g })
+window_refusal k r g = Err (record { number = k; row = r; ring = g })
 
 abbrev pub GivesMost : (Entry → Type 0) → WindowAnswer → Type 0
-GivesMost P (Most a b c w) = MostOf P (entry a b c w)
-GivesMost P (Refused why) = ⊥
+GivesMost P (Ok o) = MostOf P (entry o.low o.high o.count o.weight)
+GivesMost P (Err why) = ⊥
 
 -- 13 and 30, then 31 where no pair is in the window, then the run with the most branches, of a net of n nodes
 abbrev pub Picks : List ℕ → ℕ → List ℕ → Window → WindowAnswer → Type 0

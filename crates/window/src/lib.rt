@@ -16,20 +16,21 @@ ghost use Rattle.window.specs.work.Best.{BestOf};
 use best::{CountLimits, Found, best};
 use ground::grounded;
 use pages::Sums;
-use paging::Listed;
-use tree::{Acceptance, Refusal};
+use paging::{Listed, Rows};
+use reach::Walk;
+use tree::Refusal;
 
-// What window gives: the two nodes, lower first, with the branch count and the weight of their path; or why not.
-#[derive(Drop)]
-pub enum WindowAnswer {
-    Most {
-        low: u16,
-        high: u16,
-        count: u32,
-        weight: i64,
-    },
-    Refused(Refusal),
+// The two nodes, lower first, with the branch count and the weight of their path.
+#[derive(Clone, Copy)]
+pub struct Most {
+    pub low: u16,
+    pub high: u16,
+    pub count: u32,
+    pub weight: i64,
 }
+
+// What window gives.
+pub type WindowAnswer = Result<Most, Refusal>;
 
 // Whether the limits are positive and no lower one is above its upper one.
 fn proper(fewest: u32, most: u32, floor: i64, ceiling: i64) -> bool
@@ -48,10 +49,7 @@ fn search(
     most: u32,
     floor: i64,
     ceiling: i64,
-    parent: &mut [u16; 4096],
-    half: &mut [u16; 4096],
-    order: &mut [u16; 4096],
-    place: &mut [u16; 4096],
+    walk: &mut Walk,
 ) -> Found
     requires { Net s.now nodes }
     ensures { BestOf (InWindow s.now marks.now nodes (window fewest most floor ceiling))
@@ -62,21 +60,31 @@ fn search(
     let mut key: [u64; 4096] = [0; 4096];
     let mut wt: [u64; 4096] = [0; 4096];
     let mut hits: [u16; 4096] = [0; 4096];
-    grounded(
-        s, marks, nodes, parent, half, order, place, &mut bl, &mut bw,
-    );
+    grounded(s, marks, nodes, walk, &mut bl, &mut bw);
     arrays::fill_long(&mut bl, 1);
-    let n = arrays::wide(nodes);
+    let n = usize::from(nodes);
     let counts = CountLimits {
-        fewest: arrays::long(fewest),
-        most: arrays::long(most),
+        fewest: u64::from(fewest),
+        most: u64::from(most),
     };
     let sums = Sums {
         floor: pages::raised(floor),
         end: pages::capped(ceiling),
     };
     best(
-        parent, order, place, &bl, &bw, n, 0, false, counts, sums, half, &mut key, &mut wt,
+        &walk.parent,
+        &walk.order,
+        &walk.place,
+        &bl,
+        &bw,
+        n,
+        0,
+        false,
+        counts,
+        sums,
+        &mut walk.half,
+        &mut key,
+        &mut wt,
         &mut hits,
     )
 }
@@ -90,46 +98,29 @@ fn pick(
     most: u32,
     floor: i64,
     ceiling: i64,
-    parent: &mut [u16; 4096],
-    half: &mut [u16; 4096],
-    order: &mut [u16; 4096],
-    place: &mut [u16; 4096],
+    walk: &mut Walk,
 ) -> WindowAnswer
     requires { Net s.now nodes }
     ensures { Picks s.now nodes marks.now (window fewest most floor ceiling) result }
 {
-    let n = arrays::wide(nodes);
+    let n = usize::from(nodes);
     if marks.len() != n - 1 {
-        return WindowAnswer::Refused(Refusal {
-            number: 13,
-            row: 0,
-            ring: 0,
-        });
+        return Err(Refusal::MARKS);
     }
     if !proper(fewest, most, floor, ceiling) {
-        return WindowAnswer::Refused(Refusal {
-            number: 30,
-            row: 0,
-            ring: 0,
-        });
+        return Err(Refusal::LIMITS);
     }
-    let b = search(
-        s, marks, nodes, fewest, most, floor, ceiling, parent, half, order, place,
-    );
+    let b = search(s, marks, nodes, fewest, most, floor, ceiling, walk);
     if b.count == 0 {
-        return WindowAnswer::Refused(Refusal {
-            number: 31,
-            row: 0,
-            ring: 0,
-        });
+        return Err(Refusal::NO_WINDOW_PAIR);
     }
     let weight = table::lowered(b.weight);
-    WindowAnswer::Most {
+    Ok(Most {
         low: b.low as u16,
         high: b.high as u16,
         count: b.count as u32,
         weight,
-    }
+    })
 }
 
 // The run with the most branches in the window.
@@ -143,28 +134,10 @@ pub fn window(
 ) -> WindowAnswer
     ensures { WindowOf s.now marks.now (window fewest most floor ceiling) result }
 {
-    // The walk's arrays, which acceptance uses before there is a walk.
-    let mut parent: [u16; 4096] = [0; 4096];
-    let mut half: [u16; 4096] = [0; 4096];
-    let mut order: [u16; 4096] = [0; 4096];
-    let mut place: [u16; 4096] = [0; 4096];
-    let o = tree::accept_in(s, &mut parent, &mut half, &mut order, &mut place);
-    match o {
-        Acceptance::Refused(why) => WindowAnswer::Refused(why),
-        Acceptance::Accepted { nodes, bound } => pick(
-            s,
-            marks,
-            nodes,
-            fewest,
-            most,
-            floor,
-            ceiling,
-            &mut parent,
-            &mut half,
-            &mut order,
-            &mut place,
-        ),
-    }
+    // Acceptance uses the walk's arrays before there is a walk.
+    let mut walk = Walk::new();
+    let net = tree::accept_in(s, &mut walk)?;
+    pick(s, marks, net.nodes, fewest, most, floor, ceiling, &mut walk)
 }
 
 // 13, 30 and 17, then the page, of an accepted net. The arrays are lent for its walk.
@@ -178,45 +151,30 @@ fn list(
     ceiling: i64,
     low: u16,
     high: u16,
-    parent: &mut [u16; 4096],
-    half: &mut [u16; 4096],
-    order: &mut [u16; 4096],
-    place: &mut [u16; 4096],
+    walk: &mut Walk,
     rows: &mut [u8],
 ) -> Listed
     requires { Net s.now nodes }
     ensures { ListsMost s.now nodes marks.now (window fewest most floor ceiling) low high
         rows.old (result, rows.new) }
 {
-    let n = arrays::wide(nodes);
+    let n = usize::from(nodes);
     if marks.len() != n - 1 {
-        return Listed::Refused(Refusal {
-            number: 13,
-            row: 0,
-            ring: 0,
-        });
+        return Err(Refusal::MARKS);
     }
     if !proper(fewest, most, floor, ceiling) {
-        return Listed::Refused(Refusal {
-            number: 30,
-            row: 0,
-            ring: 0,
-        });
+        return Err(Refusal::LIMITS);
     }
     if rows.len() < 16 {
-        return Listed::Refused(Refusal {
-            number: 17,
-            row: 0,
-            ring: 0,
-        });
+        return Err(Refusal::NO_ROOM);
     }
     let k = scan::page(
-        s, marks, nodes, fewest, most, floor, ceiling, low, high, parent, half, order, place, rows,
+        s, marks, nodes, fewest, most, floor, ceiling, low, high, walk, rows,
     );
-    Listed::Rows {
+    Ok(Rows {
         written: k.given,
         left: k.left,
-    }
+    })
 }
 
 // All pairs in the window with the greatest branch count of all, strictly after (low, high): as many rows of 16 bytes
@@ -235,28 +193,9 @@ pub fn window_list(
     ensures { WindowListOf s.now marks.now (window fewest most floor ceiling) low high
         rows.old (result, rows.new) }
 {
-    let mut parent: [u16; 4096] = [0; 4096];
-    let mut half: [u16; 4096] = [0; 4096];
-    let mut order: [u16; 4096] = [0; 4096];
-    let mut place: [u16; 4096] = [0; 4096];
-    let o = tree::accept_in(s, &mut parent, &mut half, &mut order, &mut place);
-    match o {
-        Acceptance::Refused(why) => Listed::Refused(why),
-        Acceptance::Accepted { nodes, bound } => list(
-            s,
-            marks,
-            nodes,
-            fewest,
-            most,
-            floor,
-            ceiling,
-            low,
-            high,
-            &mut parent,
-            &mut half,
-            &mut order,
-            &mut place,
-            rows,
-        ),
-    }
+    let mut walk = Walk::new();
+    let net = tree::accept_in(s, &mut walk)?;
+    list(
+        s, marks, net.nodes, fewest, most, floor, ceiling, low, high, &mut walk, rows,
+    )
 }

@@ -13,6 +13,7 @@ use crate::best::{CountLimits, best};
 use ground::grounded;
 use limits::Limit;
 use pages::{Count, Sums};
+use reach::Walk;
 
 // The rows of first node u, where it may have a pair of the greatest count. One that has none costs nothing.
 fn rows_of(
@@ -104,10 +105,7 @@ pub(crate) fn page(
     ceiling: i64,
     low: u16,
     high: u16,
-    parent: &mut [u16; 4096],
-    half: &mut [u16; 4096],
-    order: &mut [u16; 4096],
-    place: &mut [u16; 4096],
+    walk: &mut Walk,
     rows: &mut [u8],
 ) -> Count
     requires { Net s.now nodes × (0 < fewest) }
@@ -120,22 +118,32 @@ pub(crate) fn page(
     let mut key: [u64; 4096] = [0; 4096];
     let mut wt: [u64; 4096] = [0; 4096];
     let mut hits: [u16; 4096] = [0; 4096];
-    grounded(
-        s, marks, nodes, parent, half, order, place, &mut bl, &mut bw,
-    );
+    grounded(s, marks, nodes, walk, &mut bl, &mut bw);
     arrays::fill_long(&mut ones, 1);
-    let n = arrays::wide(nodes);
-    let from = arrays::wide(low);
+    let n = usize::from(nodes);
+    let from = usize::from(low);
     let counts = CountLimits {
-        fewest: arrays::long(fewest),
-        most: arrays::long(most),
+        fewest: u64::from(fewest),
+        most: u64::from(most),
     };
     let sums = Sums {
         floor: pages::raised(floor),
         end: pages::capped(ceiling),
     };
     let b = best(
-        parent, order, place, &ones, &bw, n, 0, true, counts, sums, half, &mut key, &mut wt,
+        &walk.parent,
+        &walk.order,
+        &walk.place,
+        &ones,
+        &bw,
+        n,
+        0,
+        true,
+        counts,
+        sums,
+        &mut walk.half,
+        &mut key,
+        &mut wt,
         &mut hits,
     );
     if b.count == 0 {
@@ -146,9 +154,9 @@ pub(crate) fn page(
         exact: true,
     };
     firsts(
-        parent,
-        order,
-        place,
+        &walk.parent,
+        &walk.order,
+        &walk.place,
         &ones,
         &bl,
         &bw,
@@ -157,8 +165,8 @@ pub(crate) fn page(
         limit,
         sums,
         from,
-        arrays::wide(high),
-        half,
+        usize::from(high),
+        &mut walk.half,
         &mut key,
         &mut wt,
         rows,

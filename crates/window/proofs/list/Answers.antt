@@ -6,7 +6,7 @@ use Rattle.table.specs.Refuse.{refused, passed}
 use Rattle.window.proofs.list.Goals as goal
 
 pub returns-then-marks-n : goal.returns-then-marks-n
-returns-then-marks-n c = refused (λ h. c.if-marks-n.true (omega (arith, c.wide-n.ensures)))
+returns-then-marks-n c = refused (λ h. c.if-marks-n.true (omega (arith, c.from-n.ensures)))
 
 pub returns-then-not-proper : goal.returns-then-not-proper
 returns-then-not-proper c =
@@ -14,7 +14,7 @@ returns-then-not-proper c =
     let fits = c.ranges in
     let e = to_z-of_z w64 args.floor fits.floor in
     let f = to_z-of_z w64 args.ceiling fits.ceiling in
-    let wide-ensures = c.wide-n.ensures in
+    let wide-ensures = c.from-n.ensures in
     let if1-left = c.if-marks-n.false in
     let proper-ensures = c.proper.ensures in
     passed (omega (arith, if1-left, wide-ensures))
@@ -26,7 +26,7 @@ returns-then-rows-lt16 c =
     let fits = c.ranges in
     let e = to_z-of_z w64 args.floor fits.floor in
     let f = to_z-of_z w64 args.ceiling fits.ceiling in
-    let wide-ensures = c.wide-n.ensures in
+    let wide-ensures = c.from-n.ensures in
     let if1-left = c.if-marks-n.false in
     let well_put = c.proper.ensures.holds c.if-not-proper.false in
     passed (omega (arith, if1-left, wide-ensures)) (passed (rw (e, f) at well_put) (refused (λ h. omega arith)))
@@ -45,7 +45,7 @@ returns c =
     let if2-left = c.if-not-proper.false in
     let proper-ensures = c.proper.ensures in
     let if1-left = c.if-marks-n.false in
-    let wide-ensures = c.wide-n.ensures in
+    let wide-ensures = c.from-n.ensures in
     let args = c.args in
     let fits = c.ranges in
     let e = to_z-of_z w64 args.floor fits.floor in

@@ -27,7 +27,7 @@ module _ (c : After-search-b) where
   asked = window c.args.fewest c.args.most c.args.floor c.args.ceiling
 
   marked : length c.args.marks.now ≡ c.args.nodes - 1
-  marked = omega (arith, c.if-marks-n.false, c.wide-n.ensures)
+  marked = omega (arith, c.if-marks-n.false, c.from-n.ensures)
 
   well_put : Proper asked
   well_put = rw (e, f) at (c.proper.ensures.holds c.if-not-proper.false)
@@ -36,7 +36,7 @@ module _ (c : After-search-b) where
   best_is = rw (e, f) at c.search-b.ensures
 
 pub returns-then-marks-n : goal.returns-then-marks-n
-returns-then-marks-n c = refused (λ h. c.if-marks-n.true (omega (arith, c.wide-n.ensures)))
+returns-then-marks-n c = refused (λ h. c.if-marks-n.true (omega (arith, c.from-n.ensures)))
 
 pub returns-then-not-proper : goal.returns-then-not-proper
 returns-then-not-proper c =
@@ -44,7 +44,7 @@ returns-then-not-proper c =
     let fits = c.ranges in
     let e = to_z-of_z w64 args.floor fits.floor in
     let f = to_z-of_z w64 args.ceiling fits.ceiling in
-    let wide-ensures = c.wide-n.ensures in
+    let wide-ensures = c.from-n.ensures in
     let proper-ensures = c.proper.ensures in
     let if1-left = c.if-marks-n.false in
     passed (omega (arith, if1-left, wide-ensures))

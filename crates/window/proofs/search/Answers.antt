@@ -10,10 +10,10 @@ use Rattle.window.proofs.search.Goals as goal
 
 pub best-requires : goal.best-requires
 best-requires c =
-    let wide-ensures = c.wide-n.ensures in
+    let wide-ensures = c.from-n.ensures in
     let fill-long-ensures = c.fill_long.ensures in
     let grounded-ensures = c.grounded.ensures in (
-      rw wide-ensures.0 (counted grounded-ensures fill-long-ensures),
+      rw wide-ensures (counted grounded-ensures fill-long-ensures),
       record { flags = grounded-ensures.walked.long.1; lengths = fresh.lengths; weights = fresh.weights },
     )
 
@@ -21,14 +21,14 @@ pub returns : goal.returns
 returns c =
     let capped-ensures = c.capped.ensures in
     let raised-ensures = c.raised.ensures in
-    let long2-ensures = c.long-2.ensures in
-    let long-ensures = c.long.ensures in
-    let wide-ensures = c.wide-n.ensures in
+    let long2-ensures = c.from-2.ensures in
+    let long-ensures = c.from.ensures in
+    let wide-ensures = c.from-n.ensures in
     let fill-long-ensures = c.fill_long.ensures in
     let grounded-ensures = c.grounded.ensures in
     let args = c.args in
     let fits = c.ranges in
     let e = to_z-of_z w64 args.floor fits.floor in
     let f = to_z-of_z w64 args.ceiling fits.ceiling in
-    window_best (omega arith) wide-ensures.0 grounded-ensures fill-long-ensures long-ensures.0 long2-ensures.0
+    window_best (omega arith) wide-ensures grounded-ensures fill-long-ensures long-ensures long2-ensures
     (rw e at raised-ensures) (rw f at capped-ensures) c.best.ensures.0

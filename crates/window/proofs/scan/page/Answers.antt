@@ -26,20 +26,20 @@ module _ (c : After-best-b) where
   high_sum : Capped c.args.ceiling c.capped.result
   high_sum = rw (to_z-of_z w64 c.args.ceiling c.ranges.ceiling) at c.capped.ensures
 
-  n_is : c.wide-n.result ≡ c.args.nodes
-  n_is = c.wide-n.ensures.0
+  n_is : c.from-n.result ≡ c.args.nodes
+  n_is = c.from-n.ensures
 
   best_is : BestOf (InWindow c.args.s.now c.args.marks.now c.args.nodes asked) c.best-b.result
   best_is =
-      window_best (omega arith) n_is c.grounded.ensures c.fill_long.ensures c.long.ensures.0 c.long-2.ensures.0 low_sum
+      window_best (omega arith) n_is c.grounded.ensures c.fill_long.ensures c.from.ensures c.from-2.ensures low_sum
       high_sum c.best-b.ensures.0
 
 pub best-b-requires : goal.best-b-requires
 best-b-requires c =
-    let wide-ensures = c.wide-n.ensures in
+    let wide-ensures = c.from-n.ensures in
     let fill-long-ensures = c.fill_long.ensures in
     let grounded-ensures = c.grounded.ensures in (
-      rw wide-ensures.0 (counted grounded-ensures fill-long-ensures),
+      rw wide-ensures (counted grounded-ensures fill-long-ensures),
       record { flags = grounded-ensures.walked.long.1; lengths = fresh.lengths; weights = fresh.weights },
     )
 
@@ -63,10 +63,10 @@ firsts-requires c =
 pub returns : goal.returns
 returns c =
     let here = (goal.at.returns c).After-best-b in
-    let wide3-ensures = c.wide.ensures in
-    let wide2-ensures = c.wide-from.ensures in
+    let wide3-ensures = c.from-3.ensures in
+    let wide2-ensures = c.from-from.ensures in
     let if1-left = c.if-b-eq0.false in
     let m : c.best-b.result.count ≢ 0 = omega (arith, if1-left) in
     list_page _ _ (asked here) (record { most = c.best-b.result.count; exact = true }) (n_is here) (best_is here) m
     c.grounded.ensures c.fill_long.ensures (low_sum here) (high_sum here) (λ k h. h)
-    refl (rw (wide2-ensures.0, wide3-ensures.0) at c.firsts.ensures)
+    refl (rw (wide2-ensures, wide3-ensures) at c.firsts.ensures)
