@@ -13,7 +13,7 @@ use Rattle.text.specs.work.Put.{Put}
 use Rattle.changeset.specs.Entries.{row_for, RowsRise}
 use Rattle.table.specs.Row.{Stands}
 use Rattle.changeset.specs.Shown.{in_set, changed, RowShown}
-use Rattle.changeset.specs.work.Buffer.{BytesRead, BytesPut, BufferLent, RowsEach, Apart, EntriesPut}
+use Rattle.changeset.specs.work.Buffer.{BytesPut, BufferLent, RowsEach, Apart, EntriesPut}
 use Rattle.changeset.proofs.Parts.{parts_same, front_at}
 
 -- entry j is for row j, of all j below i, exactly if `off` is 0
@@ -89,9 +89,9 @@ all_none {s} {c} {n} {old} {out} h each p =
     }
 
 -- one entry more: its 12 bytes, and perhaps some behind them
-pub all_more : {s c : List ℕ} {n i : ℕ} {out w new : List ℕ} (k : ℕ) → 12 ≤ k → AllPut s c n i out → i < n - 1
-    → BytesRead k k c (8 + 14 * i) w → BytesPut k out (12 + 12 * i) w new → AllPut s c n (i + 1) new
-all_more {s} {c} {n} {i} {out} {w} {new} k wide h l t u = record {
+pub all_more : {s c : List ℕ} {n i : ℕ} {out new : List ℕ} (k : ℕ) → 12 ≤ k → AllPut s c n i out → i < n - 1
+    → BytesPut k c (8 + 14 * i) out (12 + 12 * i) new → AllPut s c n (i + 1) new
+all_more {s} {c} {n} {i} {out} {new} k wide h l u = record {
   lent = record {
     some = h.lent.some;
     few = h.lent.few;
@@ -107,7 +107,7 @@ all_more {s} {c} {n} {i} {out} {w} {new} k wide h l t u = record {
     row : (r j : ℕ) → r < i + 1 → j < 12 → Dec (r < i) → get_or new (12 + 12 * r + j) 0 ≡ get_or c (8 + 14 * r + j) 0
     row r j a b (yes d) = u.before (12 + 12 * r + j) (omega arith) ∙ h.rows r j d b
     row r j a b (no d) =
-        let z : r ≡ i = omega arith in rw z (u.there j (omega arith) ∙ t.there j (omega arith))
+        let z : r ≡ i = omega arith in rw z (u.there j (omega arith))
 
 -- all entries
 pub all_done : {s c : List ℕ} {n i off : ℕ} {out : List ℕ} → AllPut s c n i out → n - 1 ≤ i → EachOwn c i off

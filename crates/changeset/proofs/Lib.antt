@@ -2,6 +2,7 @@
 pub mod AllRows
 pub mod Bits
 pub mod Changed
+pub mod Forming
 pub mod Order
 pub mod Overlay
 pub mod Parts

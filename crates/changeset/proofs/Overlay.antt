@@ -14,7 +14,7 @@ use Rattle.changeset.specs.Entries.{row_for}
 use Rattle.changeset.specs.Shown.{Source, in_set, in_table, SourceOf, source_bytes}
 use Rattle.changeset.specs.Shown as shown
 use Rattle.changeset.specs.work.Search.{EntryCount}
-use Rattle.changeset.specs.work.Buffer.{BytesRead, BytesPut, BufferLent, EntriesPut}
+use Rattle.changeset.specs.work.Buffer.{BytesPut, BufferLent, EntriesPut}
 use Rattle.changeset.proofs.Order.{Rose, rose_none, rose_falls, rose_far, rose_more, rose_all}
 use Rattle.changeset.proofs.Parts.{parts_same, front_at}
 
@@ -64,9 +64,9 @@ module _ {s c : List ℕ} {n m low i : ℕ} {out : List ℕ} (h : Overlaid s c n
       pick j a is (yes d) = f j d is
       pick j a is (no d) = let z : j ≡ i = omega arith in n (sym (rw z at is) ∙ sym e)
 
-  pub overlaid_more : {w new : List ℕ} → BytesRead 12 12 c (8 + 14 * i) w → BytesPut 12 out (12 + 12 * q) w new
+  pub overlaid_more : {new : List ℕ} → BytesPut 12 c (8 + 14 * i) out (12 + 12 * q) new
       → Overlaid s c n m (q + 1) (i + 1) new
-  overlaid_more {w} {new} t u = record {
+  overlaid_more {new} u = record {
     rose = rose_more h.rose l q e lo hi;
     lent = record { some = h.lent.some; few = h.lent.few; size = h.lent.size; room = room };
     header = λ j a. u.before j (omega arith) ∙ h.header j a;
@@ -100,7 +100,7 @@ module _ {s c : List ℕ} {n m low i : ℕ} {out : List ℕ} (h : Overlaid s c n
             from = changed i (omega arith) (sym e ∙ sym z);
             bytes =
                 parts_same (12 + 12 * r) new (8 + 14 * i) c (omega (arith, room, h.lent.size))
-                (omega (arith, h.rose.counted.there i l)) (λ j k. rw z (u.there j k ∙ t.there j k));
+                (omega (arith, h.rose.counted.there i l)) (λ j k. rw z (u.there j k));
           }
 
 -- all entries: each row is the row shown

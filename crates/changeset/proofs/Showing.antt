@@ -1,4 +1,4 @@
--- The row shown: from the table's part and what the search found to where it lies; and that a row has one source, so
+-- The row shown: from the table's part and the entry found to where it lies; and that a row has one source, so
 -- that there is one row shown and one part.
 use Prim.Native.Nat.{ℕ, ◌+◌, ◌-◌, ◌*◌, ◌≤◌, ◌<◌}
 use mathlib.Core.Path.{◌≡◌, refl, sym, ap, ◌∙◌}
@@ -8,12 +8,12 @@ use native.Mathlib.Decide.{dec_le, dec_lt}
 use lib.ListN.{length, take, drop, length-take, length-drop}
 use Rattle.table.specs.Refuse.{Only}
 use Rattle.table.specs.Row.{Stands, PartOf}
-use Rattle.changeset.specs.Entries.{row_for}
 use Rattle.changeset.specs.Shown.{
   in_set,
   in_table,
   nowhere,
   FirstFor,
+  Unchanged,
   SourceOf,
   changed,
   kept,
@@ -23,23 +23,6 @@ use Rattle.changeset.specs.Shown.{
   RowShown,
   PartShown,
 }
-use Rattle.changeset.specs.work.Search.{EntryCount, Searched}
-
--- the search: where no entry passed is for the row, it goes on; the first that is, is found; or there is none
-module _ {c : List ℕ} {m row i : ℕ} (counted : EntryCount c m) (before : (j : ℕ) → j < i → row_for c j ≡ row → ⊥) where
-  pub search_found : row_for c i ≡ row → i < m → Searched c row i
-  search_found is l =
-      record {
-        first = λ h. record { has = h; is = is; before = before };
-        none = λ n. absurd (n (counted.there i l));
-      }
-
-  pub search_none : m ≤ i → Searched c row i
-  search_none l =
-      record {
-        first = λ h. absurd (omega (arith, counted.all i h));
-        none = λ _ j h e. before j (omega (arith, counted.all j h)) e;
-      }
 
 row_length : (s : List ℕ) (r : ℕ) → Stands s r → length (take 12 (drop (12 + 12 * r) s)) ≡ 12
 row_length s r h = simp (length-take, length-drop) (omega arith)
@@ -62,18 +45,16 @@ module _ {s : List ℕ} {home : ℕ × ℕ} {r : ℕ} {q : List ℕ} {place : �
         let n = part_none e in
         record { row = record { source = nowhere; from = nothing n; bytes = p.none n }; own = p.none_at n }
 
-    module _ (k : ℕ) (m : ℕ) (n : length q ≡ 0 → ⊥) (found : Searched c r k) (counted : EntryCount c m) where
-      pub shown_own : m ≤ k → PartShown s home c there r q place
-      shown_own l =
+    module _ (n : length q ≡ 0 → ⊥) where
+      pub shown_own : Unchanged c r → PartShown s home c there r q place
+      shown_own u =
           let h = part_there n in
-          let u = found.none (λ g. omega (arith, counted.all k g)) in
           record { row = record { source = in_table; from = kept h u; bytes = p.bytes h }; own = p.own h }
 
-      pub shown_entry : k < m → PartShown s home c there r
+      pub shown_entry : (k : ℕ) → FirstFor c r k → PartShown s home c there r
           (take ((8 + 14 * k) + 12 - (8 + 14 * k)) (drop (8 + 14 * k) c)) (there.0, (8 + 14 * k) + there.1)
-      shown_entry l =
+      shown_entry k f =
           let e : (8 + 14 * k) + 12 - (8 + 14 * k) ≡ 12 = omega arith in
-          let f : FirstFor c r k = found.first (counted.there k l) in
           record {
             row = record { source = in_set k; from = changed k (part_there n) f; bytes = rw e refl };
             own = refl;

@@ -1,4 +1,4 @@
--- The changed table in a lent buffer: bytes read and put, the entries put over the table or, where there is one for
+-- The changed table in a lent buffer: bytes put, the entries put over the table or, where there is one for
 -- every row, in its place, and what writing the changed table gives.
 use Rattle.std.specs.Prelude.{◌≡◌, Bool, true, List, ℕ, ◌+◌, ◌-◌, ◌*◌, ◌≤◌, ◌<◌, length, get_or, take}
 use Rattle.limits.specs.work.Fits.{Decides}
@@ -7,17 +7,12 @@ use Rattle.changeset.specs.Changed.{WrittenIn}
 use Rattle.changeset.specs.With.{With}
 use Rattle.changeset.specs.work.Search.{EntryCount}
 
--- the k first of m bytes are those of c from place a on
-pub record BytesRead (m k : ℕ) (c : List ℕ) (a : ℕ) (w : List ℕ) : Type 0 where
-  pub long : length w ≡ m
-  pub there : (j : ℕ) → j < k → get_or w j 0 ≡ get_or c (a + j) 0
-
--- the k first bytes of w stand from place a on, and all before and after is as it was
-pub record BytesPut (k : ℕ) (old : List ℕ) (a : ℕ) (w new : List ℕ) : Type 0 where
+-- the k bytes of c from place `from` on stand from place `at` on, and all before and after is as it was
+pub record BytesPut (k : ℕ) (c : List ℕ) (from : ℕ) (old : List ℕ) (at : ℕ) (new : List ℕ) : Type 0 where
   pub long : length new ≡ length old
-  pub there : (j : ℕ) → j < k → get_or new (a + j) 0 ≡ get_or w j 0
-  pub before : (i : ℕ) → i < a → get_or new i 0 ≡ get_or old i 0
-  pub after : (i : ℕ) → a + k ≤ i → get_or new i 0 ≡ get_or old i 0
+  pub there : (j : ℕ) → j < k → get_or new (at + j) 0 ≡ get_or c (from + j) 0
+  pub before : (i : ℕ) → i < at → get_or new i 0 ≡ get_or old i 0
+  pub after : (i : ℕ) → at + k ≤ i → get_or new i 0 ≡ get_or old i 0
 
 -- a table of n nodes, as long as its header says, and a buffer that it goes into
 pub record BufferLent (s : List ℕ) (n : ℕ) (out : List ℕ) : Type 0 where

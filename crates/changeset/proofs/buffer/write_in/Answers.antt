@@ -3,42 +3,27 @@ use Rattle.table.proofs.Accepted.{refused_header}
 use Rattle.changeset.proofs.Withs.{opened_lent, opened_33, opened_34, opened_all}
 use Rattle.changeset.proofs.buffer.write_in.Goals as goal
 
+pub returns-in-Refused : goal.returns-in-Refused
+returns-in-Refused c = refused_header (λ k r. k) c.args.table.now _ c.in-Refused.ensures
+
+pub returns-then-not-formed : goal.returns-then-not-formed
+returns-then-not-formed c =
+    let args = c.args in
+    opened_33 args.table.now args.changes.now _ _ c.in-Opened.ensures _ (c.formed.ensures.fails c.if-not-formed.true)
+
 pub put_rows-requires : goal.put_rows-requires
 put_rows-requires c =
-    let open-table-ensures = c.open_table-o.ensures in
     let args = c.args in
-    let pre = c.requires in
-    opened_lent args.table.now args.changes.now _ _ (rw c.in-Opened.is at open-table-ensures) _ pre
+    rw c.from.ensures (opened_lent args.table.now args.changes.now _ _ c.in-Opened.ensures _ c.requires)
 
 pub returns-then-put_rows : goal.returns-then-put_rows
 returns-then-put_rows c =
-    let put-rows-ensures = c.put_rows.ensures in
-    let if1-taken = c.if-formed.true in
-    let formed-ensures = c.formed.ensures in
-    let open-table-ensures = c.open_table-o.ensures in
     let args = c.args in
-    opened_all args.table.now args.changes.now _ _ (rw c.in-Opened.is at open-table-ensures) _
-    (formed-ensures.holds if1-taken) (rw c.if-put_rows.true at put-rows-ensures)
+    opened_all args.table.now args.changes.now _ _ c.in-Opened.ensures _ (c.formed.ensures.holds c.if-not-formed.false)
+    (rw (c.if-put_rows.true, c.from.ensures) at c.put_rows.ensures)
 
-pub returns-then-formed : goal.returns-then-formed
-returns-then-formed c =
-    let put-rows-ensures = c.put_rows.ensures in
-    let if1-taken = c.if-formed.true in
-    let formed-ensures = c.formed.ensures in
-    let open-table-ensures = c.open_table-o.ensures in
+pub returns-else-put_rows : goal.returns-else-put_rows
+returns-else-put_rows c =
     let args = c.args in
-    opened_34 args.table.now args.changes.now _ _ (rw c.in-Opened.is at open-table-ensures) _
-    (formed-ensures.holds if1-taken) (rw c.if-put_rows.false at put-rows-ensures)
-
-pub returns-in-Refused : goal.returns-in-Refused
-returns-in-Refused c =
-    let open-table-ensures = c.open_table-o.ensures in
-    let args = c.args in
-    refused_header (λ k r. k) args.table.now _ (rw c.in-Refused.is at open-table-ensures)
-
-pub returns-else-formed : goal.returns-else-formed
-returns-else-formed c =
-    let open-table-ensures = c.open_table-o.ensures in
-    let args = c.args in
-    opened_33 args.table.now args.changes.now _ _ (rw c.in-Opened.is at open-table-ensures) _
-    (c.formed.ensures.fails c.if-formed.false)
+    opened_34 args.table.now args.changes.now _ _ c.in-Opened.ensures _ (c.formed.ensures.holds c.if-not-formed.false)
+    (rw (c.if-put_rows.false, c.from.ensures) at c.put_rows.ensures)
