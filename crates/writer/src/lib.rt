@@ -5,6 +5,7 @@
 ghost use Rattle.std.specs.Prelude.{◌≡◌, length};
 ghost use Rattle.limits.specs.work.Fits.{Decides};
 ghost use Rattle.writer.specs.WriteRow.{Filler, cell_row, WritesRow};
+ghost use Rattle.writer.specs.declared.RowAnswer.TheVariants.{Refused};
 
 use numbers::put_bytes;
 use table::Refusal;
@@ -20,10 +21,7 @@ pub enum RowAnswer {
 pub fn is_filler(kind: u64) -> bool
     ensures { Decides (Filler kind) result }
 {
-    match kind {
-        24..=31 => return true,
-        _ => return false,
-    }
+    matches!(kind, 24..=31)
 }
 
 // The row's five numbers, one after the other.
@@ -31,40 +29,44 @@ fn put_row(a: u16, b: u16, wire: u32, kind: u16, count: u16, row: &mut [u8])
     requires { length row.old ≡ 12 }
     ensures { row.new ≡ cell_row a b wire kind count }
 {
-    put_bytes(row, 0, a as u64, 2);
-    put_bytes(row, 2, b as u64, 2);
-    put_bytes(row, 4, wire as u64, 4);
-    put_bytes(row, 8, kind as u64, 2);
-    put_bytes(row, 10, count as u64, 2);
+    put_bytes(row, 0, u64::from(a), 2);
+    put_bytes(row, 2, u64::from(b), 2);
+    put_bytes(row, 4, u64::from(wire), 4);
+    put_bytes(row, 8, u64::from(kind), 2);
+    put_bytes(row, 10, u64::from(count), 2);
+}
+
+// Every refusal names row 0.
+fn refused(number: u8) -> RowAnswer
+    ensures { result ≡ Refused (record { number = number; row = 0 }) }
+{
+    RowAnswer::Refused(Refusal { number, row: 0 })
 }
 
 // The length is called wire here: in a contract length is that of the lent bytes.
 pub fn write_row(a: u16, b: u16, wire: u32, kind: u16, count: u16, row: &mut [u8]) -> RowAnswer
     ensures { WritesRow a b wire kind count row.old (result, row.new) }
 {
-    if 4095 < a {
-        return RowAnswer::Refused(Refusal { number: 7, row: 0 });
-    }
-    if 4095 < b {
-        return RowAnswer::Refused(Refusal { number: 7, row: 0 });
+    if 4095 < a || 4095 < b {
+        return refused(7);
     }
     if a == b {
-        return RowAnswer::Refused(Refusal { number: 8, row: 0 });
+        return refused(8);
     }
     if 1000000 < wire {
-        return RowAnswer::Refused(Refusal { number: 9, row: 0 });
+        return refused(9);
     }
     if 64 <= kind {
-        return RowAnswer::Refused(Refusal { number: 22, row: 0 });
+        return refused(22);
     }
-    if is_filler(kind as u64) {
-        return RowAnswer::Refused(Refusal { number: 35, row: 0 });
+    if is_filler(u64::from(kind)) {
+        return refused(35);
     }
     if 20000 < count {
-        return RowAnswer::Refused(Refusal { number: 23, row: 0 });
+        return refused(23);
     }
     if row.len() != 12 {
-        return RowAnswer::Refused(Refusal { number: 39, row: 0 });
+        return refused(39);
     }
     put_row(a, b, wire, kind, count, row);
     RowAnswer::Written

@@ -5,55 +5,57 @@ use Rattle.writer.specs.declared.RowAnswer.TheVariants.{Written}
 use Rattle.writer.proofs.write_row.Goals as goal
 
 pub returns-then-a-gt4095 : goal.returns-then-a-gt4095
-returns-then-a-gt4095 c = refused (λ n. omega (arith, n.0))
-
-pub returns-then-b-gt4095 : goal.returns-then-b-gt4095
-returns-then-b-gt4095 c = refused (λ n. omega (arith, n.1))
+returns-then-a-gt4095 c = rw c.refused.ensures (refused (λ n. grind arith))
 
 pub returns-then-a-b : goal.returns-then-a-b
-returns-then-a-b c = passed (omega arith, omega arith) (refused (λ n. n (omega arith)))
+returns-then-a-b c =
+    rw c.refused-then-a-b.ensures (passed (omega arith, omega arith) (refused (λ n. n (omega arith))))
 
 pub returns-then-wire-gt1000000 : goal.returns-then-wire-gt1000000
-returns-then-wire-gt1000000 c = passed (omega arith, omega arith)
-    (passed (λ e. omega (arith, e)) (refused (λ n. omega arith)))
+returns-then-wire-gt1000000 c =
+    rw c.refused-then-wire-gt1000000.ensures
+    (passed (omega arith, omega arith) (passed (λ e. omega (arith, e)) (refused (λ n. omega arith))))
 
 pub returns-then-kind-ge64 : goal.returns-then-kind-ge64
 returns-then-kind-ge64 c =
-    passed (omega arith, omega arith)
-    (passed (λ e. omega (arith, e)) (passed (omega arith) (refused (λ n. omega arith))))
+    rw c.refused-then-kind-ge64.ensures
+    (passed (omega arith, omega arith)
+    (passed (λ e. omega (arith, e)) (passed (omega arith) (refused (λ n. omega arith)))))
 
 pub returns-then-is_filler : goal.returns-then-is_filler
 returns-then-is_filler c =
-    passed (omega arith, omega arith)
+    rw c.refused-then-is_filler.ensures
+    (passed (omega arith, omega arith)
     (passed (λ e. omega (arith, e))
     (passed (omega arith)
-    (passed (omega arith) (refused (λ n. n (c.is_filler.ensures.holds c.if-is_filler.true))))))
+    (passed (omega arith)
+    (refused (λ n. n (rw c.from.ensures at (c.is_filler.ensures.holds c.if-is_filler.true))))))))
 
 pub returns-then-count-gt20000 : goal.returns-then-count-gt20000
 returns-then-count-gt20000 c =
-    passed (omega arith, omega arith)
+    rw c.refused-then-count-gt20000.ensures
+    (passed (omega arith, omega arith)
     (passed (λ e. omega (arith, e))
     (passed (omega arith)
     (passed (omega arith)
-    (passed (c.is_filler.ensures.fails c.if-is_filler.false) (refused (λ n. omega arith))))))
+    (passed (rw c.from.ensures at (c.is_filler.ensures.fails c.if-is_filler.false))
+    (refused (λ n. omega arith)))))))
 
 pub returns-then-row-ne12 : goal.returns-then-row-ne12
 returns-then-row-ne12 c =
-    let is-filler-ensures = c.is_filler.ensures in
-    passed (omega arith, omega arith)
+    rw c.refused-then-row-ne12.ensures
+    (passed (omega arith, omega arith)
     (passed (λ e. omega (arith, e))
     (passed (omega arith)
     (passed (omega arith)
-    (passed (is-filler-ensures.fails c.if-is_filler.false)
-    (passed (omega arith) (refused (λ n. omega arith)))))))
+    (passed (rw c.from.ensures at (c.is_filler.ensures.fails c.if-is_filler.false))
+    (passed (omega arith) (refused (λ n. omega arith))))))))
 
 pub returns : goal.returns
 returns c =
-    let if6-left = c.if-is_filler.false in
-    let is-filler-ensures = c.is_filler.ensures in
     passed (omega arith, omega arith)
     (passed (λ e. omega (arith, e))
     (passed (omega arith)
     (passed (omega arith)
-    (passed (is-filler-ensures.fails if6-left)
+    (passed (rw c.from.ensures at (c.is_filler.ensures.fails c.if-is_filler.false))
     (passed (omega arith) (passed (omega arith) (λ i. (Written, c.put_row.ensures i))))))))
