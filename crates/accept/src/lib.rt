@@ -34,11 +34,8 @@ fn filler_rows(s: &[u8], nodes: u16) -> u16
     }
     let rows = arrays::wide(nodes) - 1;
     let mut filler: u16 = 0;
-    let mut r: usize = 0;
-    while r < rows {
-        let kind = kind_at(s, r);
-        r += 1;
-        if is_filler(kind) {
+    for r in 0..rows {
+        if is_filler(kind_at(s, r)) {
             filler += 1;
         }
     }
@@ -48,16 +45,12 @@ fn filler_rows(s: &[u8], nodes: u16) -> u16
 pub fn accept(s: &[u8]) -> AcceptAnswer
     ensures { AcceptOf s.now result }
 {
-    let o = tree::accept(s);
-    match o {
+    match tree::accept(s) {
         Acceptance::Refused(why) => AcceptAnswer::Refused(why),
-        Acceptance::Accepted { nodes, bound } => {
-            let filler = filler_rows(s, nodes);
-            AcceptAnswer::Accepted {
-                nodes,
-                bound,
-                filler,
-            }
-        }
+        Acceptance::Accepted { nodes, bound } => AcceptAnswer::Accepted {
+            nodes,
+            bound,
+            filler: filler_rows(s, nodes),
+        },
     }
 }
