@@ -51,13 +51,6 @@ module _ (q : ℕ → ℕ) where
       pick (no n) (yes h) = absurd (later b a h)
       pick (no n) (no m) = omega arith
 
-  -- as `find` gives it: one more than the place, or 0
-  pub found : {v w k x : ℕ} → v ≡ w → 0 < x → LastAt q v k x → LastAt q w k (x - 1 + 1)
-  found {v} {w} {k} {x} e h l = let p : x - 1 + 1 ≡ x = omega arith in rw (p, ← e) l
-
-  pub missed : {v w k x : ℕ} → v ≡ w → x ≤ 0 → LastAt q v k x → LastAt q w k 0
-  missed {v} {w} {k} {x} e h l = let p : x ≡ 0 = omega arith in rw (← e) (rw (p) at l)
-
   pub key_there : {v w k x : ℕ} → v ≡ w → LastAt q v k x → LastAt q w k x
   key_there e l = rw (e) at l
 

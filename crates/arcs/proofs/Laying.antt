@@ -11,19 +11,25 @@ use native.Mathlib.Numerals.{add-one}
 use native.Mathlib.Decide.{ℕ_discrete}
 use lib.ListN.{length, set, length-set, length-append}
 use lib.Seq.{sets, get_or-set_same, get_or-set_other}
+use Rattle.std.proofs.Common.{Option, Some, None}
+use Rattle.std.specs.Option.{IsSome}
 use Rattle.arrays.specs.At.{at}
 use Rattle.arrays.specs.work.Filled.{Filled}
 use Rattle.arcs.specs.Arcs.{Arcs, Paired}
 use Rattle.arcs.specs.Made.{Earlier, Firsts, again, RowFields, BranchRow, BranchRows, row_bytes, rows_bytes}
 use Rattle.arcs.specs.Made as made
-use Rattle.arcs.specs.work.Chunk.{arc_key, back_key, turned_key, key_at, number_at, NodesFit, WholeIn, LastAt}
+use Rattle.arcs.specs.work.Chunk.{arc_key, back_key, turned_key, key_at, number_at, NodesFit, WholeIn, link, LastAt}
 use Rattle.arcs.specs.work.Lay.{arc_fields, RowsLaid, FirstsMarked, LayReady}
 use Rattle.arcs.proofs.Keys.{same_from, same_to, back_from, back_to, flip, back_key_lem, key_from, key_to, back_is}
-use Rattle.arcs.proofs.Chunks.{last_only, found, found_holds, found_some}
+use Rattle.arcs.proofs.Chunks.{last_only, key_there, found_holds, found_some}
 use Rattle.arcs.proofs.Pairs.{names_covers}
 use Rattle.arcs.proofs.Halves.{earlier_back, back_earlier, earlier_first, room}
 use Rattle.arcs.proofs.RowBytes.{rows_sets}
 use Rattle.arcs.proofs.Branches.{branch_rows_long, branch_rows_snoc}
+
+linked : (r : Option ℕ) → 0 < link r → IsSome r
+linked None h = absurd (omega arith)
+linked (Some x) h = grind arith
 
 -- a chunk that begins with arc 0
 module _ {A : Arcs} {m : ℕ} (chunk : List ℕ) (w : WholeIn A m chunk) (j : ℕ) (l : j < m) where
@@ -165,11 +171,11 @@ module _ (m : ℕ) (lengths weights first next : List ℕ) where
     back_is_here : turned_key (key_at lengths j) ≡ back_key L j
     back_is_here = whole_back lengths rd.left j l
 
-    pub key_found : {x : ℕ} → LastAt (key_at weights) (key_at lengths j) m x → 0 < x
-    key_found z = found_some (key_at weights) held (rw (key_is_here) at z)
+    pub key_found : (r : Option ℕ) → LastAt (key_at weights) (key_at lengths j) m (link r) → IsSome r
+    key_found r z = linked r (found_some (key_at weights) held (rw (key_is_here) at z))
 
-    pub back_found : {y : ℕ} → LastAt (key_at weights) (turned_key (key_at lengths j)) m y → 0 < y
-    back_found z = found_some (key_at weights) held_back (rw (back_is_here) at z)
+    pub back_found : (r : Option ℕ) → LastAt (key_at weights) (turned_key (key_at lengths j)) m (link r) → IsSome r
+    back_found r z = linked r (found_some (key_at weights) held_back (rw (back_is_here) at z))
 
     pub ends_some : (1 ≤ key_at lengths j / 65536) × (1 ≤ key_at lengths j % 65536)
     ends_some = (
@@ -177,32 +183,31 @@ module _ (m : ℕ) (lengths weights first next : List ℕ) where
       rw (whole_to lengths rd.left j l) (rd.left.fit.to_low j low),
     )
 
-    key_place : {x : ℕ} → LastAt (key_at weights) (key_at lengths j) m x
-        → LastAt (key_at weights) (arc_key L j) m (x - 1 + 1)
-    key_place z = found (key_at weights) key_is_here (key_found z) z
+    key_place : {x : ℕ} → LastAt (key_at weights) (key_at lengths j) m x → LastAt (key_at weights) (arc_key L j) m x
+    key_place z = key_there (key_at weights) key_is_here z
 
     back_place : {y : ℕ} → LastAt (key_at weights) (turned_key (key_at lengths j)) m y
-        → LastAt (key_at weights) (back_key L j) m (y - 1 + 1)
-    back_place z = found (key_at weights) back_is_here (back_found z) z
+        → LastAt (key_at weights) (back_key L j) m y
+    back_place z = key_there (key_at weights) back_is_here z
 
-    row_here : (x : ℕ) → LastAt (key_at weights) (key_at lengths j) m x
-        → BranchRow L M j (arc_fields (at lengths j) (at weights (x - 1)))
+    row_here : (x : ℕ) → LastAt (key_at weights) (key_at lengths j) m (x + 1)
+        → BranchRow L M j (arc_fields (at lengths j) (at weights x))
     row_here x z =
         let w = key_place z in
-        let b : x - 1 < m = omega (arith, w.below) in
-        let d : x - 1 < M.count = omega (arith, rd.right.all) in
-        let e = sym (whole_key weights rd.right (x - 1) b) ∙ found_holds (key_at weights) (x - 1) w in
+        let b : x < m = omega (arith, w.below) in
+        let d : x < M.count = omega (arith, rd.right.all) in
+        let e = sym (whole_key weights rd.right x b) ∙ found_holds (key_at weights) x w in
         record {
           first = ap (λ y. y - 1) (whole_from lengths rd.left j l);
           second = ap (λ y. y - 1) (whole_to lengths rd.left j l);
           long = whole_number lengths rd.left j l;
-          arc = x - 1;
+          arc = x;
           within = d;
           along = inl (
-            same_from M L rd.right.fit rd.left.fit (x - 1) j d low e,
-            same_to M L rd.right.fit rd.left.fit (x - 1) j d low e,
+            same_from M L rd.right.fit rd.left.fit x j d low e,
+            same_to M L rd.right.fit rd.left.fit x j d low e,
           );
-          heavy = whole_number weights rd.right (x - 1) b;
+          heavy = whole_number weights rd.right x b;
         }
 
 module _ (m : ℕ) (lengths weights first next old : List ℕ) where
@@ -225,16 +230,16 @@ module _ (m : ℕ) (lengths weights first next old : List ℕ) where
 
   -- one turn
   module _ (j c y : ℕ) (seen new : List ℕ) (l : j < m)
-      (q : LastAt (key_at weights) (turned_key (key_at lengths j)) m y)
+      (q : LastAt (key_at weights) (turned_key (key_at lengths j)) m (y + 1))
       (s : Laying m lengths weights first next old j c seen new) where
-    pub laying_again : at seen (y - 1) ≢ 0 → Laying m lengths weights first next old (j + 1) c seen new
+    pub laying_again : at seen y ≢ 0 → Laying m lengths weights first next old (j + 1) c seen new
     laying_again o = record { so_far = λ L M rd. go L M rd (s.so_far L M rd) }
       where
         go : (L M : Arcs) → LayReady L M m lengths weights first next → LaidBefore L M m weights old j c seen new
             → LaidBefore L M m weights old (j + 1) c seen new
         go L M rd b =
             let z = back_place m lengths weights first next L M rd j l q in
-            let w = marks_earlier L m weights rd.left.fit j (y - 1) seen
+            let w = marks_earlier L m weights rd.left.fit j y seen
             (low m lengths weights first next L M rd j l) z b.marks o in
             record {
               laid = record {
@@ -248,27 +253,27 @@ module _ (m : ℕ) (lengths weights first next old : List ℕ) where
               marks = marks_again L m weights j seen w b.marks;
             }
 
-    fresh : (L M : Arcs) (rd : LayReady L M m lengths weights first next) → at seen (y - 1) ≡ 0 → ¬ Earlier L j
+    fresh : (L M : Arcs) (rd : LayReady L M m lengths weights first next) → at seen y ≡ 0 → ¬ Earlier L j
     fresh L M rd o =
-        marks_fresh L m weights rd.left.fit j (y - 1) seen (low m lengths weights first next L M rd j l)
+        marks_fresh L m weights rd.left.fit j y seen (low m lengths weights first next L M rd j l)
         (back_place m lengths weights first next L M rd j l q) (s.so_far L M rd).marks rd.paired o
 
-    pub laying_room : (L M : Arcs) → LayReady L M m lengths weights first next → at seen (y - 1) ≡ 0 → c < 4095
+    pub laying_room : (L M : Arcs) → LayReady L M m lengths weights first next → at seen y ≡ 0 → c < 4095
     laying_room L M rd o =
         let b = s.so_far L M rd in
         let r = room L rd.paired (low m lengths weights first next L M rd j l) b.laid.order (fresh L M rd o) in
         omega (arith, r, branch_rows_long b.laid.each, b.many, rd.few, rd.left.all)
 
-    pub laying_new : at seen (y - 1) ≡ 0 → (x : ℕ) → LastAt (key_at weights) (key_at lengths j) m x → (after : List ℕ)
-        → after ≡ sets new (12 * c + 12) (row_bytes (arc_fields (at lengths j) (at weights (x - 1))))
-        → Laying m lengths weights first next old (j + 1) (c + 1) (set seen (x - 1) 1) after
+    pub laying_new : at seen y ≡ 0 → (x : ℕ) → LastAt (key_at weights) (key_at lengths j) m (x + 1) → (after : List ℕ)
+        → after ≡ sets new (12 * c + 12) (row_bytes (arc_fields (at lengths j) (at weights x)))
+        → Laying m lengths weights first next old (j + 1) (c + 1) (set seen x 1) after
     laying_new o x p after w = record { so_far = λ L M rd. go L M rd (s.so_far L M rd) }
       where
         f : RowFields
-        f = arc_fields (at lengths j) (at weights (x - 1))
+        f = arc_fields (at lengths j) (at weights x)
 
         go : (L M : Arcs) → LayReady L M m lengths weights first next → LaidBefore L M m weights old j c seen new
-            → LaidBefore L M m weights old (j + 1) (c + 1) (set seen (x - 1) 1) after
+            → LaidBefore L M m weights old (j + 1) (c + 1) (set seen x 1) after
         go L M rd b = record {
           laid = record {
             firsts = b.laid.firsts ++ j ∷ [];
@@ -278,7 +283,7 @@ module _ (m : ℕ) (lengths weights first next old : List ℕ) where
             is = w ∙ rw b.laid.is (rows_sets old b.laid.rows f c b.many);
           };
           many = omega (arith, b.many, length-append b.laid.rows (f ∷ []));
-          marks = marks_more L m weights j (x - 1) seen (key_place m lengths weights first next L M rd j l p)
+          marks = marks_more L m weights j x seen (key_place m lengths weights first next L M rd j l p)
               (omega (arith, rd.few)) b.marks;
         }
 

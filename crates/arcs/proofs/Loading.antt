@@ -8,12 +8,14 @@ use lib.ListN.{length, get_or, set, drop}
 use lib.Seq.{drop-cons}
 use Rattle.roads.specs.Text.{Arc, Node, Lines, done, comment, arc}
 use Rattle.roads.specs.work.Line.{arc_of}
-use Rattle.roads.specs.work.Whole.{StepOf}
-use Rattle.roads.specs.declared.line.Step.TheVariants.{To, End}
+use Rattle.roads.specs.work.Whole.{StepOf, to}
+use Rattle.std.proofs.Common.{Some, None}
+use Rattle.roads.specs.declared.line.Step.{Step}
 use Rattle.roads.proofs.Stepping.{step_arcs, step_end}
 use Rattle.arcs.specs.Arcs.{no_arc, arcs_of}
-use Rattle.arcs.specs.declared.chunk.Kind.{Kind}
-use Rattle.arcs.specs.work.Chunk.{arc_key, NodesFit, Tail, TailOf, KindFits, ChunkOf, Loaded}
+use Rattle.roads.specs.work.Line.{KindFits}
+use Rattle.roads.specs.declared.line.Kind.{Kind}
+use Rattle.arcs.specs.work.Chunk.{arc_key, NodesFit, Tail, TailOf, ChunkOf, Loaded}
 use Rattle.arcs.proofs.Chunks.{chunk_none, chunk_more}
 
 -- both nodes of an arc
@@ -46,14 +48,17 @@ pub same_counts : {ka kb : Kind} {s w : List ℕ} {i j m : ℕ} {x y : List Arc}
 unfolding arcs_of
 same_counts t u = sym t.count ∙ u.count
 
--- the arc that comes next
-record Comes (kind : Kind) (s : List ℕ) (all : List Arc) (j u v x next : ℕ) : Type 0 where
-  is : arc_of u v x ≡ get_or all j no_arc
-  rest : Tail kind s next (drop (suc j) all)
+step_fits : {top low n : ℕ} {s : List ℕ} {c : ℕ} {o : Step} → StepOf top low n s c (Some o) → o.to ≤ n
+step_fits (to _ line _) = line.to_node.high
 
-comes : {kind : Kind} {s : List ℕ} {c u v x next : ℕ} (all : List Arc) (j : ℕ)
-    → StepOf kind.top kind.low kind.nodes s c (To u v x next) → Tail kind s c (drop j all) → j < length all
-    → Comes kind s all j u v x next
+-- the arc that comes next
+record Comes (kind : Kind) (s : List ℕ) (all : List Arc) (j : ℕ) (o : Step) : Type 0 where
+  is : arc_of o.from o.to o.number ≡ get_or all j no_arc
+  rest : Tail kind s o.next (drop (suc j) all)
+
+comes : {kind : Kind} {s : List ℕ} {c : ℕ} {o : Step} (all : List Arc) (j : ℕ)
+    → StepOf kind.top kind.low kind.nodes s c (Some o) → Tail kind s c (drop j all) → j < length all
+    → Comes kind s all j o
 comes all j step t b =
     let h = step_arcs step (rw (drop-cons all j no_arc b) at t) in
     record { is = h.0; rest = h.1 }
@@ -66,18 +71,18 @@ module _ (kind : Kind) (s : List ℕ) (at : ℕ) where
     stands = λ all start t h. chunk_none (arcs_of all) start r (omega arith);
   }
 
-  pub loaded_more : (t c y : ℕ) {u v x next : ℕ} (chunk : List ℕ) → t < 8192 → v < 65536
-      → StepOf kind.top kind.low kind.nodes s c (To u v x next) → y / 4294967296 ≡ 65536 * u + v
-      → y % 4294967296 ≡ x → Loaded kind s at t c chunk → Loaded kind s at (t + 1) next (set chunk t y)
+  pub loaded_more : (t c y : ℕ) {o : Step} (chunk : List ℕ) → t < 8192 → kind.nodes < 65536
+      → StepOf kind.top kind.low kind.nodes s c (Some o) → y / 4294967296 ≡ 65536 * o.from + o.to
+      → y % 4294967296 ≡ o.number → Loaded kind s at t c chunk → Loaded kind s at (t + 1) o.next (set chunk t y)
   unfolding arcs_of arc_key
-  loaded_more t c y {u} {v} {x} {next} chunk b d step ek en l = record { on = on; stands = stands }
+  loaded_more t c y {o} chunk b d step ek en l = record { on = on; stands = stands }
     where
       here : (all : List Arc) (start : ℕ) → Tail kind s at (drop start all) → start + (t + 1) ≤ length all
-          → Comes kind s all (start + t) u v x next
+          → Comes kind s all (start + t) o
       here all start p h = comes all (start + t) step (l.on all start p (omega arith)) (omega arith)
 
       on : (all : List Arc) (start : ℕ) → Tail kind s at (drop start all) → start + (t + 1) ≤ length all
-          → Tail kind s next (drop (start + (t + 1)) all)
+          → Tail kind s o.next (drop (start + (t + 1)) all)
       on all start p h =
           let e : start + (t + 1) ≡ suc (start + t) = omega arith in
           rw (e) (here all start p h).rest
@@ -88,11 +93,11 @@ module _ (kind : Kind) (s : List ℕ) (at : ℕ) where
           let q = (here all start p h).is in
           let f = ap (λ (e : Arc). e.from) q in
           let g = ap (λ (e : Arc). e.to) q in
-          chunk_more (arcs_of all) start t y chunk b (omega arith) (omega (arith, g)) (omega (arith, ek, f, g))
+          chunk_more (arcs_of all) start t y chunk b (omega arith) (omega (arith, g, step_fits step, d)) (omega (arith, ek, f, g))
           (en ∙ ap (λ (e : Arc). e.number) q) (l.stands all start p (omega arith))
 
   -- the text does not end before the arcs to be copied
-  pub loaded_end : (t k c : ℕ) (chunk : List ℕ) → t < k → StepOf kind.top kind.low kind.nodes s c End
+  pub loaded_end : (t k c : ℕ) (chunk : List ℕ) → t < k → StepOf kind.top kind.low kind.nodes s c None
       → Loaded kind s at t c chunk → Loaded kind s at k c chunk
   loaded_end t k c chunk b step l =
       record {

@@ -16,7 +16,7 @@ use Rattle.arcs.specs.Arcs.{Arcs}
 use Rattle.arcs.specs.work.Chunk.{arc_key, back_key, turned_key, key_at, number_at, LastAt, ChunkOf, WholeIn, Answers}
 use Rattle.arcs.specs.work.Look.{Matches, MatchedBelow, LookedUp, ChunkIn, ArcsIn, Looked}
 use Rattle.arcs.proofs.Keys.{back_is}
-use Rattle.arcs.proofs.Chunks.{last_only, found, missed, found_holds}
+use Rattle.arcs.proofs.Chunks.{last_only, key_there, found_holds}
 
 -- one arc of B more
 module _ (strict : Bool) (B : Arcs) (k : ℕ) (chunk : List ℕ) where
@@ -179,11 +179,11 @@ module _ (strict : Bool) (many : ℕ) (others : List ℕ) (k : ℕ) (chunk old :
       none B start c A g =
           g.apart (start + t) (omega (arith, c.within)) (sym (arc_key_lem t l c) ∙ q ∙ opposite_key t y l e c)
 
-  module _ (t y p : ℕ) (seen : List ℕ) (l : t < many) (e : y ≡ turned_key (key_at others t))
+  module _ (t y : ℕ) (seen : List ℕ) (l : t < many) (e : y ≡ turned_key (key_at others t))
       (s : Looking strict many others k chunk old t seen) where
-    pub looking_miss : key_at others t ≢ y → LastAt (key_at chunk) y k p → p ≤ 0
+    pub looking_miss : key_at others t ≢ y → LastAt (key_at chunk) y k 0
         → Looking strict many others k chunk old (t + 1) seen
-    looking_miss n z o = record { so_far = λ B start c w. more B start c (s.so_far B start c w) }
+    looking_miss n z = record { so_far = λ B start c w. more B start c (s.so_far B start c w) }
       where
         more : (B : Arcs) (start : ℕ) → ChunkOf B start many others
             → LookedUp strict B k chunk (start + t) seen → LookedUp strict B k chunk (start + (t + 1)) seen
@@ -191,35 +191,35 @@ module _ (strict : Bool) (many : ℕ) (others : List ℕ) (k : ℕ) (chunk old :
             let q : start + (t + 1) ≡ start + t + 1 = omega arith in
             rw (q)
             (looked_miss strict B k chunk (start + t) seen (apart t y l e n c)
-            (missed (key_at chunk) (opposite_key t y l e c) o z) w)
+            (key_there (key_at chunk) (opposite_key t y l e c) z) w)
 
-    pub looking_hit : key_at others t ≢ y → LastAt (key_at chunk) y k p → 0 < p → k ≤ 8192 → at seen (p - 1) ≡ 0
-        → (strict ≡ true → number_at others t ≡ number_at chunk (p - 1))
-        → Looking strict many others k chunk old (t + 1) (set seen (p - 1) 1)
-    looking_hit n z o few f u = record { so_far = λ B start c w. more B start c (s.so_far B start c w) }
+    pub looking_hit : (i : ℕ) → key_at others t ≢ y → LastAt (key_at chunk) y k (i + 1) → k ≤ 8192 → at seen i ≡ 0
+        → (strict ≡ true → number_at others t ≡ number_at chunk i)
+        → Looking strict many others k chunk old (t + 1) (set seen i 1)
+    looking_hit i n z few f u = record { so_far = λ B start c w. more B start c (s.so_far B start c w) }
       where
         more : (B : Arcs) (start : ℕ) → ChunkOf B start many others
             → LookedUp strict B k chunk (start + t) seen
-            → LookedUp strict B k chunk (start + (t + 1)) (set seen (p - 1) 1)
+            → LookedUp strict B k chunk (start + (t + 1)) (set seen i 1)
         more B start c w =
             let q : start + (t + 1) ≡ start + t + 1 = omega arith in
             rw (q)
-            (looked_hit strict B k chunk (start + t) (p - 1) seen (apart t y l e n c)
-            (found (key_at chunk) (opposite_key t y l e c) o z) few f (λ h. sym (c.number_is t l) ∙ u h) w)
+            (looked_hit strict B k chunk (start + t) i seen (apart t y l e n c)
+            (key_there (key_at chunk) (opposite_key t y l e c) z) few f (λ h. sym (c.number_is t l) ∙ u h) w)
 
     -- a fault: a place that is marked already, or has another number
-    pub in_unfit : LastAt (key_at chunk) y k p → 0 < p
-        → ¬ ((at seen (p - 1) ≡ 0) × (strict ≡ true → number_at others t ≡ number_at chunk (p - 1))) → {after : List ℕ}
+    pub in_unfit : (i : ℕ) → LastAt (key_at chunk) y k (i + 1)
+        → ¬ ((at seen i ≡ 0) × (strict ≡ true → number_at others t ≡ number_at chunk i)) → {after : List ℕ}
         → ChunkIn strict many others k chunk old after false
-    in_unfit z o n =
+    in_unfit i z n =
         record { there = λ h. absurd (false≢true h); fault = λ _ B start c w. none B start c (s.so_far B start c w) }
       where
         none : (B : Arcs) (start : ℕ) → ChunkOf B start many others
             → LookedUp strict B k chunk (start + t) seen → (A : Arcs) (from : ℕ) → ChunkOf A from k chunk
             → ¬ Matches strict A B
         none B start c w =
-            unfit strict B k chunk (start + t) (p - 1) seen (omega (arith, c.within))
-            (found (key_at chunk) (opposite_key t y l e c) o z) (λ h. n (h.0, λ g. c.number_is t l ∙ h.1 g)) w
+            unfit strict B k chunk (start + t) i seen (omega (arith, c.within))
+            (key_there (key_at chunk) (opposite_key t y l e c) z) (λ h. n (h.0, λ g. c.number_is t l ∙ h.1 g)) w
 
   pub in_all : (t : ℕ) (seen : List ℕ) → t ≡ many → Looking strict many others k chunk old t seen
       → ChunkIn strict many others k chunk old seen true

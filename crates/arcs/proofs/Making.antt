@@ -7,40 +7,39 @@ use native.Mathlib.Omega.{arith}
 use lib.ListN.{length, take, length-append}
 use lib.Seq.{sets}
 use Rattle.arrays.proofs.Stores.{sets_append}
+use Rattle.std.proofs.Common.{Ok, Err}
 use Rattle.table.specs.Refuse.{refused, passed}
 use Rattle.text.proofs.Puts.{put_sets, put_front}
 use Rattle.roads.specs.Text.{Said}
 use Rattle.arcs.specs.Arcs.{Arcs, arcs_of, Paired}
 use Rattle.arcs.specs.Made.{rows_bytes, header_bytes, TableOf}
 use Rattle.arcs.specs.work.Chunk.{WholeIn, Buckets}
-use Rattle.arcs.specs.work.Look.{Decided}
+use Rattle.arcs.specs.work.Look.{Decided, Verdict}
 use Rattle.arcs.specs.work.Lay.{RowsLaid, RowsMade, LayReady}
 use Rattle.arcs.proofs.RowBytes.{rows_size, header_size}
 use Rattle.arcs.proofs.Theorems.{rows_half}
 
 module _ {L M : Arcs} where
-  pub lay_ready : {d m : ℕ} {lengths weights first next : List ℕ} → Decided L M d → d ≡ 0
+  pub lay_ready : {m : ℕ} {lengths weights first next : List ℕ} → Decided L M (Ok tt)
       → WholeIn L m lengths → WholeIn M m weights → m ≤ 8190 → Buckets weights m first next
       → LayReady L M m lengths weights first next
-  lay_ready (refused n) z a b f c = absurd (omega arith)
-  lay_ready (passed p (refused n)) z a b f c = absurd (omega arith)
-  lay_ready (passed p (passed s e)) z a b f c =
+  lay_ready (passed p (passed s e)) a b f c =
       record { left = a; right = b; paired = p.0; paired_too = p.1; same = s; few = f; buckets = c }
 
   module _ {old new : List ℕ} where
-    pub made_refused : {d : ℕ} → Decided L M d → (d ≡ 0 → ⊥) → RowsMade L M old new d
-    made_refused (refused n) z = refused n
-    made_refused (passed p (refused n)) z = passed p (refused n)
-    made_refused (passed p (passed s e)) z = absurd (z e)
+    pub made_refused : {k : ℕ} → Decided L M (Err k) → RowsMade L M old new (Err k)
+    made_refused (refused n) = refused n
+    made_refused (passed p (refused n)) = passed p (refused n)
+    made_refused (passed p (passed s e)) = absurd (differ e)
+      where
+        differ : {k : ℕ} → ◌≡◌ {A = Verdict} (Err k) (Ok tt) → ⊥
+        differ e = cc
 
-    pub made_laid : {d : ℕ} → Decided L M d → d ≡ 0 → (L.count ≤ 8190 → RowsLaid L M L.count old new)
-        → RowsMade L M old new 0
-    made_laid (refused n) z f = absurd (omega arith)
-    made_laid (passed p (refused n)) z f = absurd (omega arith)
-    made_laid (passed p (passed s e)) z f = passed p (passed s (refl, f))
+    pub made_laid : Decided L M (Ok tt) → (L.count ≤ 8190 → RowsLaid L M L.count old new) → RowsMade L M old new (Ok tt)
+    made_laid (passed p (passed s e)) f = passed p (passed s (refl, f))
 
     -- the same where nothing was laid, there being more arcs
-    pub made_many : {d : ℕ} → Decided L M d → (L.count ≤ 8190 → ⊥) → RowsMade L M old new d
+    pub made_many : {d : Verdict} → Decided L M d → (L.count ≤ 8190 → ⊥) → RowsMade L M old new d
     made_many (refused n) f = refused n
     made_many (passed p (refused n)) f = passed p (refused n)
     made_many (passed p (passed s e)) f = passed p (passed s (e, λ h. absurd (f h)))

@@ -10,8 +10,9 @@ use Rattle.arrays.specs.At.{at}
 use Rattle.arrays.specs.work.Filled.{Filled}
 use Rattle.roads.specs.Text.{Arc}
 use Rattle.arcs.specs.Arcs.{arcs_of}
-use Rattle.arcs.specs.declared.chunk.Kind.{Kind}
-use Rattle.arcs.specs.work.Chunk.{Tail, TailOf, KindFits, ChunkOf, WholeIn, Loaded, ChunkEnd, Answers}
+use Rattle.roads.specs.work.Line.{KindFits}
+use Rattle.roads.specs.declared.line.Kind.{Kind}
+use Rattle.arcs.specs.work.Chunk.{Tail, TailOf, ChunkOf, WholeIn, Loaded, ChunkEnd, Answers}
 use Rattle.arcs.specs.work.Look.{MatchedBelow, LookedUp, ChunkIn, ArcsIn, Looked}
 use Rattle.arcs.proofs.Loading.{arcs_fit}
 use Rattle.arcs.proofs.Looks.{looked_none, arcs_in, arcs_not_in, matched_none, looked_fault, looked_all}
@@ -39,10 +40,10 @@ module _ {kind : Kind} {s : List ℕ} {all : List Arc} where
     stood_chunk = w.stands all start p.tail room
 
 -- a text that fits one chunk
-pub loaded_whole : {kind : Kind} {s : List ℕ} {at m next : ℕ} {all : List Arc} {chunk : List ℕ} → KindFits kind
-    → Loaded kind s at m next chunk → TailOf kind s at m all → WholeIn (arcs_of all) m chunk
+pub loaded_whole : {kind : Kind} {s : List ℕ} {at m count next : ℕ} {all : List Arc} {chunk : List ℕ} → KindFits kind
+    → count ≡ m → Loaded kind s at m next chunk → TailOf kind s at m all → WholeIn (arcs_of all) count chunk
 unfolding arcs_of
-loaded_whole {all = all} k w t = record {
+loaded_whole {all = all} k e w t = rw e record {
   fit = arcs_fit k t;
   all = t.count;
   stands = w.stands all 0 t.says (omega (arith, t.count));

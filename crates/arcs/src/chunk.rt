@@ -1,44 +1,48 @@
 // Chunks: up to 8,192 arcs of a text at a time, copied into an array and found again by their nodes. An arc is one
 // number of 64 bits: its two nodes, 16 bits each, which are its key, and below them the 32 bits of its number.
 ghost use Rattle.std.specs.Prelude.{◌≡◌, ◌+◌, ◌*◌, ◌/◌, ◌%◌, ◌≤◌, ◌<◌, length};
-ghost use Rattle.arrays.specs.work.Filled.{Filled};
-ghost use Rattle.arcs.specs.work.Chunk.{turned_key, key_at, bucket, KindFits, Loaded, LastAt, Buckets, ChunkEnd};
+ghost use Rattle.roads.specs.work.Line.{KindFits};
+ghost use Rattle.arcs.specs.work.Chunk.{turned_key, key_at, bucket, Loaded, link, LastAt, Buckets, Searchable, ChunkEnd};
 
 use arrays::{fill_wide, long, wide};
-use roads::{Step, next_arc};
+use roads::{Kind, Step, next_arc};
 
-// How a text is read: nodes from 1 to `nodes`, numbers from -low to top.
+// Where the arcs of a text begin, and how they are read.
 #[derive(Clone, Copy)]
-pub struct Kind {
-    pub nodes: u16,
-    pub top: u64,
-    pub low: u64,
+pub(crate) struct Road<'a> {
+    pub text: &'a [u8],
+    pub at: usize,
+    pub kind: Kind,
 }
 
-fn clear_arcs(p: &mut [u64; 8192])
-    ensures { Filled 8192 0 p.new }
-{
-    *p = [0; 8192];
+#[derive(Drop)]
+pub(crate) struct Chunk {
+    pub arcs: [u64; 8192],
+    pub count: usize,
 }
 
-pub(crate) fn clear_marks(p: &mut [u8; 8192])
-    ensures { Filled 8192 0 p.new }
-{
-    *p = [0; 8192];
+// The places of a chunk, chained by the buckets of their keys. A link is one more than a place, or 0 for none: as
+// `Option<u16>` it would take twice the memory.
+#[derive(Drop)]
+pub(crate) struct Links {
+    pub first: [u16; 8192],
+    pub next: [u16; 8192],
 }
 
-// A node where 64 bits are worked with.
-fn node(x: u16) -> u64
-    ensures { (result ≡ x) × (result < 65536) }
-{
-    x as u64
+// What is worked in: two chunks, of which the links are one's, and the marks on the places of that one.
+#[derive(Drop)]
+pub(crate) struct Work {
+    pub one: Chunk,
+    pub other: Chunk,
+    pub links: Links,
+    pub seen: [u8; 8192],
 }
 
 // An arc as one number.
 fn packed(from: u16, to: u16, number: u32) -> u64
     ensures { (result / 4294967296 ≡ 65536 * from + to) × (result % 4294967296 ≡ number) }
 {
-    4294967296 * (65536 * node(from) + node(to)) + long(number)
+    4294967296 * (65536 * u64::from(from) + u64::from(to)) + long(number)
 }
 
 pub(crate) fn key_of(arc: u64) -> u32
@@ -60,71 +64,65 @@ fn bucket_of(key: u32) -> usize
     (key % 8179) as usize
 }
 
-// Copies k arcs from a place on; the answer is the place after them.
-pub(crate) fn load(s: &[u8], at: usize, kind: Kind, k: usize, chunk: &mut [u64; 8192]) -> usize
-    requires { (k ≤ 8192) × KindFits kind }
-    ensures { (length chunk.new ≡ 8192)
-        × Loaded kind s.now at k result chunk.new }
-{
-    clear_arcs(chunk);
-    let nodes = kind.nodes;
-    let top = kind.top;
-    let low = kind.low;
-    let mut c = at;
-    let mut t: usize = 0;
-    while t < k {
-        let Step::To {
-            from,
-            to,
-            number,
-            next,
-        } = next_arc(s, c, nodes, top, low)
-        else {
-            return c;
-        };
-        chunk[t] = packed(from, to, number);
-        c = next;
-        t += 1;
-    }
-    c
-}
-
-// Chains the places below k by the buckets of their keys.
-pub(crate) fn chain(chunk: &[u64; 8192], k: usize, first: &mut [u16; 8192], next: &mut [u16; 8192])
-    requires { (length chunk.now ≡ 8192) × (k ≤ 8192) }
-    ensures { Buckets chunk.now k first.new next.new }
-{
-    fill_wide(first, 0);
-    fill_wide(next, 0);
-    let mut i = 0;
-    while i < k {
-        let v = bucket_of(key_of(chunk[i]));
-        next[i] = first[v];
-        first[v] = (i + 1) as u16;
-        i += 1;
-    }
-}
-
-// One more than the last place below k that holds an arc of this key, or 0.
-pub(crate) fn find(
-    chunk: &[u64; 8192],
-    first: &[u16; 8192],
-    next: &[u16; 8192],
-    k: usize,
-    key: u32,
-) -> usize
-    requires { Buckets chunk.now k first.now next.now × (length chunk.now ≡ 8192) }
-    ensures { LastAt (key_at chunk.now) key k result }
-{
-    let mut i = wide(first[bucket_of(key)]);
-    while i > 0 {
-        let h = i - 1;
-        if key_of(chunk[h]) == key {
-            return i;
+impl Chunk {
+    // Copies so many arcs from a place on; the answer is the place after them.
+    pub(crate) fn load(&mut self, s: &[u8], at: usize, kind: Kind, count: usize) -> usize
+        requires { (count ≤ 8192) × KindFits kind }
+        ensures { (length self.new.arcs ≡ 8192)
+            × (self.new.count ≡ count)
+            × Loaded kind s.now at count result self.new.arcs }
+    {
+        self.arcs = [0; 8192];
+        self.count = count;
+        let mut c = at;
+        for t in 0..count {
+            let Some(
+                Step {
+                    from,
+                    to,
+                    number,
+                    next,
+                },
+            ) = next_arc(s, c, kind)
+            else {
+                return c;
+            };
+            self.arcs[t] = packed(from, to, number);
+            c = next;
         }
-        i = wide(next[h]);
+        c
     }
-    0
+}
+
+impl Links {
+    pub(crate) fn chain(&mut self, chunk: &Chunk)
+        requires { (length chunk.now.arcs ≡ 8192) × (chunk.now.count ≤ 8192) }
+        ensures { Buckets chunk.now.arcs chunk.now.count self.new.first self.new.next }
+    {
+        fill_wide(&mut self.first, 0);
+        fill_wide(&mut self.next, 0);
+        for i in 0..chunk.count {
+            let v = bucket_of(key_of(chunk.arcs[i]));
+            self.next[i] = self.first[v];
+            self.first[v] = (i + 1) as u16;
+        }
+    }
+
+    // The last place that holds an arc of this key.
+    pub(crate) fn find(&self, chunk: &Chunk, key: u32) -> Option<usize>
+        requires { Searchable chunk.now.count chunk.now.arcs self.now.first self.now.next }
+        ensures { LastAt (key_at chunk.now.arcs) key chunk.now.count (link result) }
+    {
+        let mut i = wide(self.first[bucket_of(key)]);
+        while i > 0 {
+            let h = i - 1;
+            if key_of(chunk.arcs[h]) == key {
+                return Some(h);
+            }
+            i = wide(self.next[h]);
+        }
+        None
+    }
 }
 
 // Where the chunk that begins at start ends, of m arcs.
@@ -132,8 +130,5 @@ pub(crate) fn end_of(start: usize, m: usize) -> usize
     requires { start ≤ m }
     ensures { ChunkEnd start m result }
 {
-    if m - start <= 8192 {
-        return m;
-    }
-    start + 8192
+    start + (m - start).min(8192)
 }

@@ -5,7 +5,7 @@ ghost use Rattle.arcs.specs.Arcs.{Arcs};
 ghost use Rattle.arcs.specs.Made.{row_bytes};
 ghost use Rattle.arcs.specs.work.Lay.{arc_fields, RowsLaid, LayReady};
 
-use crate::chunk::{clear_marks, find, key_of, turned};
+use crate::chunk::{Chunk, Links, key_of, turned};
 use numbers::put_bytes;
 
 // Row c: an arc's nodes less 1 each, its length, and the number of the other arc, its branch's weight.
@@ -25,36 +25,34 @@ fn put_row(table: &mut [u8; 49152], c: usize, arc: u64, other: u64)
 }
 
 // The rows in the order of the branches' first arcs. An arc is its branch's first if its opposite's place in the weight
-// text is not marked yet; its branch's weight stands at its own place there.
+// text is not marked yet; its branch's weight stands at its own place there. Both are there: the texts have the same
+// branches.
 pub(crate) fn lay(
-    m: usize,
-    lengths: &[u64; 8192],
-    weights: &[u64; 8192],
-    first: &[u16; 8192],
-    next: &[u16; 8192],
+    lengths: &Chunk,
+    weights: &Chunk,
+    links: &Links,
     seen: &mut [u8; 8192],
     table: &mut [u8; 49152],
 )
     requires { (L : Arcs)
         × (M : Arcs)
-        × LayReady L M m lengths.now weights.now first.now next.now
+        × LayReady L M lengths.now.count lengths.now.arcs weights.now.arcs links.now.first links.now.next
+        × (weights.now.count ≡ lengths.now.count)
         × (length table.old ≡ 49152) }
     ensures { (L M : Arcs)
-        → LayReady L M m lengths.now weights.now first.now next.now
+        → LayReady L M lengths.now.count lengths.now.arcs weights.now.arcs links.now.first links.now.next
         → RowsLaid L M L.count table.old table.new }
 {
-    clear_marks(seen);
+    *seen = [0; 8192];
     let mut c = 0;
-    let mut j = 0;
-    while j < m {
-        let arc = lengths[j];
+    for j in 0..lengths.count {
+        let arc = lengths.arcs[j];
         let key = key_of(arc);
-        j += 1;
-        let y = find(weights, first, next, m, turned(key)) - 1;
+        let y = links.find(weights, turned(key)).unwrap();
         if seen[y] == 0 {
-            let x = find(weights, first, next, m, key) - 1;
+            let x = links.find(weights, key).unwrap();
             seen[x] = 1;
-            put_row(table, c, arc, weights[x]);
+            put_row(table, c, arc, weights.arcs[x]);
             c += 1;
         }
     }

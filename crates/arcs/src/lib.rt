@@ -16,13 +16,13 @@ mod look;
 mod many;
 mod one;
 
-use chunk::Kind;
+use chunk::{Chunk, Links, Road, Work};
 use many::decide_many;
 use one::rows_one;
-use roads::{LENGTH_LOW, LENGTH_TOP, WEIGHT_LOW, WEIGHT_TOP};
+use roads::{Kind, LENGTH_LOW, LENGTH_TOP, WEIGHT_LOW, WEIGHT_TOP};
 
-// 27, 28, or 0: of m arcs each that stand from place i on in the length text and from place j on in the weight text.
-// After 0 the table has the rows, from byte 12 on, unless there are more than 4,095. Between crates.
+// 27 or 28 of m arcs each that stand from place i on in the length text and from place j on in the weight text; else
+// the table has the rows, from byte 12 on, unless there are more than 4,095. Between crates.
 pub fn rows(
     s: &[u8],
     i: usize,
@@ -31,7 +31,7 @@ pub fn rows(
     nodes: u16,
     m: usize,
     table: &mut [u8; 49152],
-) -> u8
+) -> Result<(), u8>
     requires { (la : List Arc)
         × (lb : List Arc)
         × ArcsFrom 4294967295 0 nodes s.now i m la
@@ -41,51 +41,42 @@ pub fn rows(
         → ArcsFrom 2147483647 2147483648 nodes w.now j m lb
         → RowsMade (arcs_of la) (arcs_of lb) table.old table.new result }
 {
-    let mut lengths: [u64; 8192] = [0; 8192];
-    let mut weights: [u64; 8192] = [0; 8192];
-    let mut first: [u16; 8192] = [0; 8192];
-    let mut next: [u16; 8192] = [0; 8192];
-    let mut seen: [u8; 8192] = [0; 8192];
-    let ks = Kind {
-        nodes,
-        top: LENGTH_TOP,
-        low: LENGTH_LOW,
+    let mut work = Work {
+        one: Chunk {
+            arcs: [0; 8192],
+            count: 0,
+        },
+        other: Chunk {
+            arcs: [0; 8192],
+            count: 0,
+        },
+        links: Links {
+            first: [0; 8192],
+            next: [0; 8192],
+        },
+        seen: [0; 8192],
     };
-    let kw = Kind {
-        nodes,
-        top: WEIGHT_TOP,
-        low: WEIGHT_LOW,
+    let lengths = Road {
+        text: s,
+        at: i,
+        kind: Kind {
+            nodes,
+            top: LENGTH_TOP,
+            low: LENGTH_LOW,
+        },
+    };
+    let weights = Road {
+        text: w,
+        at: j,
+        kind: Kind {
+            nodes,
+            top: WEIGHT_TOP,
+            low: WEIGHT_LOW,
+        },
     };
     if m <= 8192 {
-        return rows_one(
-            s,
-            i,
-            ks,
-            w,
-            j,
-            kw,
-            m,
-            &mut lengths,
-            &mut weights,
-            &mut first,
-            &mut next,
-            &mut seen,
-            table,
-        );
+        rows_one(lengths, weights, m, &mut work, table)
+    } else {
+        decide_many(lengths, weights, m, &mut work)
     }
-    // the arrays serve for the chunks of both texts
-    decide_many(
-        s,
-        i,
-        ks,
-        w,
-        j,
-        kw,
-        m,
-        &mut lengths,
-        &mut weights,
-        &mut first,
-        &mut next,
-        &mut seen,
-    )
 }

@@ -7,54 +7,39 @@ ghost use Rattle.arcs.specs.Arcs.{Arcs};
 ghost use Rattle.arcs.specs.work.Chunk.{WholeIn, Searchable, Answers};
 ghost use Rattle.arcs.specs.work.Look.{ChunkIn, ArcsIn};
 
-use crate::chunk::{clear_marks, find, key_of, turned};
+use crate::chunk::{Chunk, Links, key_of, turned};
 
 // Whether a place found is one that was not found before and, where the look is strict, its arc has the equal number.
 fn agree(strict: bool, seen: u8, mine: u64, other: u64) -> bool
     ensures { Answers ((seen ≡ 0) × (strict ≡ true → other % 4294967296 ≡ mine % 4294967296)) result }
 {
-    if seen != 0 {
-        return false;
-    }
-    if strict {
-        if other % 4294967296 != mine % 4294967296 {
-            return false;
-        }
-    }
-    true
+    seen == 0 && (!strict || other % 4294967296 == mine % 4294967296)
 }
 
 // Looks the opposites of the arcs of one chunk up in another.
 pub(crate) fn look(
     strict: bool,
-    many: usize,
-    others: &[u64; 8192],
-    k: usize,
-    chunk: &[u64; 8192],
-    first: &[u16; 8192],
-    next: &[u16; 8192],
+    others: &Chunk,
+    chunk: &Chunk,
+    links: &Links,
     seen: &mut [u8; 8192],
 ) -> bool
-    requires { (many ≤ 8192)
-        × (length others.now ≡ 8192)
-        × Searchable k chunk.now first.now next.now
+    requires { (others.now.count ≤ 8192)
+        × (length others.now.arcs ≡ 8192)
+        × Searchable chunk.now.count chunk.now.arcs links.now.first links.now.next
         × (length seen.old ≡ 8192) }
     ensures { (length seen.new ≡ 8192)
-        × ChunkIn strict many others.now k chunk.now seen.old seen.new result }
+        × ChunkIn strict others.now.count others.now.arcs chunk.now.count chunk.now.arcs seen.old seen.new result }
 {
-    let mut t = 0;
-    while t < many {
-        let arc = others[t];
-        t += 1;
+    for t in 0..others.count {
+        let arc = others.arcs[t];
         let key = key_of(arc);
         let back = turned(key);
         if key == back {
             return false;
         }
-        let p = find(chunk, first, next, k, back);
-        if p > 0 {
-            let i = p - 1;
-            if !agree(strict, seen[i], chunk[i], arc) {
+        if let Some(i) = links.find(chunk, back) {
+            if !agree(strict, seen[i], chunk.arcs[i], arc) {
                 return false;
             }
             seen[i] = 1;
@@ -68,34 +53,23 @@ pub(crate) fn all_seen(seen: &[u8; 8192], k: usize) -> bool
     requires { (length seen.now ≡ 8192) × (k ≤ 8192) }
     ensures { Answers ((i : ℕ) → i < k → at seen.now i ≡ 0 → ⊥) result }
 {
-    let mut i = 0;
-    while i < k {
-        if seen[i] == 0 {
-            return false;
-        }
-        i += 1;
-    }
-    true
+    seen[..k].iter().all(|x| *x != 0)
 }
 
 // The look of a text that stands whole in one chunk.
 pub(crate) fn look_whole(
     strict: bool,
-    many: usize,
-    others: &[u64; 8192],
-    k: usize,
-    chunk: &[u64; 8192],
-    first: &[u16; 8192],
-    next: &[u16; 8192],
+    others: &Chunk,
+    chunk: &Chunk,
+    links: &Links,
     seen: &mut [u8; 8192],
 ) -> bool
-    requires { (many ≤ 8192) × (length others.now ≡ 8192) × Searchable k chunk.now first.now next.now }
-    ensures { (B : Arcs) → WholeIn B many others.now
-        → ArcsIn strict B k chunk.now result }
+    requires { (others.now.count ≤ 8192)
+        × (length others.now.arcs ≡ 8192)
+        × Searchable chunk.now.count chunk.now.arcs links.now.first links.now.next }
+    ensures { (B : Arcs) → WholeIn B others.now.count others.now.arcs
+        → ArcsIn strict B chunk.now.count chunk.now.arcs result }
 {
-    clear_marks(seen);
-    if !look(strict, many, others, k, chunk, first, next, seen) {
-        return false;
-    }
-    all_seen(seen, k)
+    *seen = [0; 8192];
+    look(strict, others, chunk, links, seen) && all_seen(seen, chunk.count)
 }

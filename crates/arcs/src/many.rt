@@ -1,76 +1,65 @@
 // Texts of more arcs than a chunk holds: the same look, by chunks of one text, and for each of them by chunks of the
 // other. Such texts make no rows here.
-ghost use Rattle.std.specs.Prelude.{List};
+ghost use Rattle.std.specs.Prelude.{◌≡◌, List};
 ghost use Rattle.roads.specs.Text.{Arc};
+ghost use Rattle.roads.specs.work.Line.{KindFits};
 ghost use Rattle.arcs.specs.Arcs.{arcs_of};
-ghost use Rattle.arcs.specs.work.Chunk.{KindFits, TailOf, Searchable};
+ghost use Rattle.arcs.specs.work.Chunk.{TailOf, Searchable};
 ghost use Rattle.arcs.specs.work.Look.{ArcsIn, Looked, Decided};
 
-use crate::chunk::{Kind, chain, clear_marks, end_of, load};
+use crate::chunk::{Chunk, Links, Road, Work, end_of};
 use crate::look::{all_seen, look};
 
 // Looks the opposites of all arcs of a text up in a chunk.
 fn stream(
-    b: &[u8],
-    at: usize,
-    kind: Kind,
+    b: Road,
     m: usize,
     strict: bool,
-    k: usize,
-    chunk: &[u64; 8192],
-    first: &[u16; 8192],
-    next: &[u16; 8192],
-    others: &mut [u64; 8192],
+    chunk: &Chunk,
+    links: &Links,
+    others: &mut Chunk,
     seen: &mut [u8; 8192],
 ) -> bool
-    requires { KindFits kind × Searchable k chunk.now first.now next.now }
-    ensures { (all : List Arc) → TailOf kind b.now at m all
-        → ArcsIn strict (arcs_of all) k chunk.now result }
+    requires { KindFits b.kind × Searchable chunk.now.count chunk.now.arcs links.now.first links.now.next }
+    ensures { (all : List Arc) → TailOf b.entry.kind b.entry.text.now b.entry.at m all
+        → ArcsIn strict (arcs_of all) chunk.now.count chunk.now.arcs result }
 {
-    clear_marks(seen);
-    let mut c = at;
+    *seen = [0; 8192];
+    let mut c = b.at;
     let mut start = 0;
     while start < m {
         let end = end_of(start, m);
-        let many = end - start;
-        c = load(b, c, kind, many, others);
-        if !look(strict, many, others, k, chunk, first, next, seen) {
+        c = others.load(b.text, c, b.kind, end - start);
+        if !look(strict, others, chunk, links, seen) {
             return false;
         }
         start = end;
     }
-    all_seen(seen, k)
+    all_seen(seen, chunk.count)
 }
 
 // Whether each arc of a has its one opposite in b; where it is strict, with equal number. No arc of b goes from a node
 // to itself.
-fn meets(
-    a: &[u8],
-    ia: usize,
-    ka: Kind,
-    b: &[u8],
-    ib: usize,
-    kb: Kind,
-    m: usize,
-    strict: bool,
-    chunk: &mut [u64; 8192],
-    others: &mut [u64; 8192],
-    first: &mut [u16; 8192],
-    next: &mut [u16; 8192],
-    seen: &mut [u8; 8192],
-) -> bool
-    requires { KindFits ka × KindFits kb }
-    ensures { (x : List Arc) → TailOf ka a.now ia m x → (y : List Arc)
-        → TailOf kb b.now ib m y → Looked strict (arcs_of x) (arcs_of y) result }
+fn meets(a: Road, b: Road, m: usize, strict: bool, work: &mut Work) -> bool
+    requires { KindFits a.kind × KindFits b.kind }
+    ensures { (x : List Arc) → TailOf a.entry.kind a.entry.text.now a.entry.at m x → (y : List Arc)
+        → TailOf b.entry.kind b.entry.text.now b.entry.at m y → Looked strict (arcs_of x) (arcs_of y) result }
 {
-    let mut c = ia;
+    let mut c = a.at;
     let mut start = 0;
     while start < m {
         let end = end_of(start, m);
-        let k = end - start;
-        c = load(a, c, ka, k, chunk);
-        chain(chunk, k, first, next);
-        if !stream(b, ib, kb, m, strict, k, chunk, first, next, others, seen) {
+        c = work.one.load(a.text, c, a.kind, end - start);
+        work.links.chain(&work.one);
+        if !stream(
+            b,
+            m,
+            strict,
+            &work.one,
+            &work.links,
+            &mut work.other,
+            &mut work.seen,
+        ) {
             return false;
         }
         start = end;
@@ -78,39 +67,17 @@ fn meets(
     true
 }
 
-// 27 or 28, or 0.
-pub(crate) fn decide_many(
-    s: &[u8],
-    i: usize,
-    ks: Kind,
-    w: &[u8],
-    j: usize,
-    kw: Kind,
-    m: usize,
-    chunk: &mut [u64; 8192],
-    others: &mut [u64; 8192],
-    first: &mut [u16; 8192],
-    next: &mut [u16; 8192],
-    seen: &mut [u8; 8192],
-) -> u8
-    requires { KindFits ks × KindFits kw }
-    ensures { (x : List Arc) → TailOf ks s.now i m x → (y : List Arc)
-        → TailOf kw w.now j m y → Decided (arcs_of x) (arcs_of y) result }
+// 27 or 28.
+pub(crate) fn decide_many(s: Road, w: Road, m: usize, work: &mut Work) -> Result<(), u8>
+    requires { KindFits s.kind × KindFits w.kind }
+    ensures { (x : List Arc) → TailOf s.entry.kind s.entry.text.now s.entry.at m x → (y : List Arc)
+        → TailOf w.entry.kind w.entry.text.now w.entry.at m y → Decided (arcs_of x) (arcs_of y) result }
 {
-    if !meets(
-        s, i, ks, s, i, ks, m, true, chunk, others, first, next, seen,
-    ) {
-        return 27;
+    if !meets(s, s, m, true, work) || !meets(w, w, m, true, work) {
+        return Err(27);
     }
-    if !meets(
-        w, j, kw, w, j, kw, m, true, chunk, others, first, next, seen,
-    ) {
-        return 27;
+    if !meets(s, w, m, false, work) {
+        return Err(28);
     }
-    if !meets(
-        s, i, ks, w, j, kw, m, false, chunk, others, first, next, seen,
-    ) {
-        return 28;
-    }
-    0
+    Ok(())
 }

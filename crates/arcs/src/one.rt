@@ -1,80 +1,77 @@
 // Texts whose arcs one chunk holds: each is read once, and everything else is done on the two chunks.
-ghost use Rattle.std.specs.Prelude.{◌≡◌, List, ◌≤◌, length};
+ghost use Rattle.std.specs.Prelude.{◌≡◌, List, ◌≤◌, length, Ok};
 ghost use Rattle.roads.specs.Text.{Arc};
+ghost use Rattle.roads.specs.work.Line.{KindFits};
 ghost use Rattle.arcs.specs.Arcs.{Arcs, arcs_of};
-ghost use Rattle.arcs.specs.work.Chunk.{KindFits, TailOf, WholeIn, Buckets};
+ghost use Rattle.arcs.specs.work.Chunk.{TailOf, WholeIn, Buckets};
 ghost use Rattle.arcs.specs.work.Look.{Decided};
 ghost use Rattle.arcs.specs.work.Lay.{RowsMade};
 
-use crate::chunk::{Kind, chain, load};
+use crate::chunk::{Chunk, Links, Road, Work};
 use crate::lay::lay;
 use crate::look::look_whole;
 
-// 27 or 28, or 0; then the weight text's chunk is chained.
+// 27 or 28; then the weight text's chunk is chained.
 fn decide_one(
-    m: usize,
-    lengths: &[u64; 8192],
-    weights: &[u64; 8192],
-    first: &mut [u16; 8192],
-    next: &mut [u16; 8192],
+    lengths: &Chunk,
+    weights: &Chunk,
+    links: &mut Links,
     seen: &mut [u8; 8192],
-) -> u8
-    requires { (m ≤ 8192) × (length lengths.now ≡ 8192) × (length weights.now ≡ 8192) }
-    ensures { (result ≡ 0 → Buckets weights.now m first.new next.new)
-        × ((L M : Arcs) → WholeIn L m lengths.now → WholeIn M m weights.now → Decided L M result) }
+) -> Result<(), u8>
+    requires { (lengths.now.count ≤ 8192)
+        × (weights.now.count ≡ lengths.now.count)
+        × (length lengths.now.arcs ≡ 8192)
+        × (length weights.now.arcs ≡ 8192) }
+    ensures { (result ≡ Ok tt → Buckets weights.now.arcs weights.now.count links.new.first links.new.next)
+        × ((L M : Arcs) → WholeIn L lengths.now.count lengths.now.arcs → WholeIn M weights.now.count weights.now.arcs
+        → Decided L M result) }
 {
-    chain(lengths, m, first, next);
-    if !look_whole(true, m, lengths, m, lengths, first, next, seen) {
-        return 27;
+    links.chain(lengths);
+    if !look_whole(true, lengths, lengths, links, seen) {
+        return Err(27);
     }
-    let same = look_whole(false, m, weights, m, lengths, first, next, seen);
-    chain(weights, m, first, next);
-    if !look_whole(true, m, weights, m, weights, first, next, seen) {
-        return 27;
+    let same = look_whole(false, weights, lengths, links, seen);
+    links.chain(weights);
+    if !look_whole(true, weights, weights, links, seen) {
+        return Err(27);
     }
     if !same {
-        return 28;
+        return Err(28);
     }
-    0
+    Ok(())
 }
 
-// 27, 28, or 0 and the rows where there are at most 4,095.
+// 27, 28, or the rows where there are at most 4,095.
 pub(crate) fn rows_one(
-    s: &[u8],
-    i: usize,
-    ks: Kind,
-    w: &[u8],
-    j: usize,
-    kw: Kind,
+    s: Road,
+    w: Road,
     m: usize,
-    lengths: &mut [u64; 8192],
-    weights: &mut [u64; 8192],
-    first: &mut [u16; 8192],
-    next: &mut [u16; 8192],
-    seen: &mut [u8; 8192],
+    work: &mut Work,
     table: &mut [u8; 49152],
-) -> u8
+) -> Result<(), u8>
     requires { (la : List Arc)
         × (lb : List Arc)
-        × TailOf ks s.now i m la
-        × TailOf kw w.now j m lb
-        × KindFits ks
-        × KindFits kw
+        × TailOf s.kind s.text.now s.at m la
+        × TailOf w.kind w.text.now w.at m lb
+        × KindFits s.kind
+        × KindFits w.kind
         × (m ≤ 8192)
         × (length table.old ≡ 49152) }
-    ensures { (la : List Arc) → TailOf ks s.now i m la → (lb : List Arc)
-        → TailOf kw w.now j m lb
+    ensures { (la : List Arc) → TailOf s.entry.kind s.entry.text.now s.entry.at m la → (lb : List Arc)
+        → TailOf w.entry.kind w.entry.text.now w.entry.at m lb
         → RowsMade (arcs_of la) (arcs_of lb) table.old table.new result }
 {
-    load(s, i, ks, m, lengths);
-    load(w, j, kw, m, weights);
-    let d = decide_one(m, lengths, weights, first, next, seen);
-    if d != 0 {
-        return d;
+    let Work {
+        one: lengths,
+        other: weights,
+        links,
+        seen,
+    } = work;
+    lengths.load(s.text, s.at, s.kind, m);
+    weights.load(w.text, w.at, w.kind, m);
+    decide_one(lengths, weights, links, seen)?;
+    if m <= 8190 {
+        lay(lengths, weights, links, seen, table);
     }
-    if m > 8190 {
-        return 0;
-    }
-    lay(m, lengths, weights, first, next, seen, table);
-    0
+    Ok(())
 }

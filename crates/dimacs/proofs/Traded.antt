@@ -3,17 +3,18 @@
 -- then rows.
 use Prim.Native.Nat.{ℕ, ◌+◌, ◌*◌, ◌≤◌, ◌<◌}
 use mathlib.Core.Path.{◌≡◌, sym, ap, ◌∙◌}
-use mathlib.Core.Logic.{◌≢◌}
 use mathlib.Core.List.{List}
 use native.Mathlib.Omega.{arith}
 use lib.ListN.{length, take}
 use lib.Seq.{sets, length-sets, length-take-le}
+use Rattle.std.proofs.Common.{Ok, Err}
 use Rattle.tree.specs.Accept.{Begins}
 use Rattle.roads.specs.work.Whole.{BothSay}
 use Rattle.roads.proofs.Agreeing.{agreed_on, both_nodes, both_arcs}
 use Rattle.arcs.specs.Arcs.{arcs_of}
 use Rattle.arcs.specs.Made.{TableOf, header_bytes, rows_bytes}
 use Rattle.arcs.specs.work.Chunk.{ArcsFrom}
+use Rattle.arcs.specs.work.Look.{Verdict}
 use Rattle.arcs.specs.work.Lay.{RowsLaid, RowsMade}
 use Rattle.arcs.proofs.RowBytes.{rows_size}
 use Rattle.arcs.proofs.Making.{laid_table}
@@ -45,16 +46,19 @@ pub header_long : {n bound : ℕ} {t : List ℕ} → HeaderIn n bound t → leng
 header_long {n} {bound} h = ap length h.is ∙ length-sets h.before 0 (header_bytes n bound) ∙ h.long
 
 -- t, and then with the rows, u
-module _ {s w : List ℕ} {n k i j : ℕ} (q : BothSay s w n k i j) (bound : ℕ) (old : List ℕ) {t u : List ℕ} (d : ℕ)
-    (made : RowsMade (arcs_of q.lengths.arcs) (arcs_of q.weights.arcs) t u d) where
-  pub arcs_refused : d ≢ 0 → ReadOf s w bound old (read_refusal old d 0 0)
-  arcs_refused n = agreed_on q (unlike q.lengths q.weights bound old d made (λ r. r.0) n)
+module _ {s w : List ℕ} {n k i j : ℕ} (q : BothSay s w n k i j) (bound : ℕ) (old : List ℕ) {t u : List ℕ} where
+  pub arcs_refused : {d : ℕ} → RowsMade (arcs_of q.lengths.arcs) (arcs_of q.weights.arcs) t u (Err d)
+      → ReadOf s w bound old (read_refusal old d 0 0)
+  arcs_refused made = agreed_on q (unlike q.lengths q.weights bound old made (λ r. differ r.0))
+    where
+      differ : {d : ℕ} → ◌≡◌ {A = Verdict} (Err d) (Ok tt) → ⊥
+      differ e = cc
 
-  module _ (zero : d ≡ 0) where
+  module _ (made : RowsMade (arcs_of q.lengths.arcs) (arcs_of q.weights.arcs) t u (Ok tt)) where
     matched : Alike q.lengths q.weights
-        ((d ≡ 0) × ((arcs_of q.lengths.arcs).count ≤ 8190
+        ((◌≡◌ {A = Verdict} (Ok tt) (Ok tt)) × ((arcs_of q.lengths.arcs).count ≤ 8190
         → RowsLaid (arcs_of q.lengths.arcs) (arcs_of q.weights.arcs) (arcs_of q.lengths.arcs).count t u))
-    matched = alike q.lengths q.weights d made zero
+    matched = alike q.lengths q.weights made
 
     -- some table, of the size known
     there : (x : List ℕ) × TableOf q.lengths q.weights bound x

@@ -11,7 +11,7 @@ pub(crate) fn put_header(table: &mut [u8], nodes: u16, bound: u32)
 {
     text::put_word(table, 0, b"RTN");
     put_bytes(table, 3, 1, 2);
-    put_bytes(table, 5, nodes as u64, 2);
+    put_bytes(table, 5, u64::from(nodes), 2);
     put_bytes(table, 7, 0, 1);
-    put_bytes(table, 8, bound as u64, 4);
+    put_bytes(table, 8, u64::from(bound), 4);
 }

@@ -2,6 +2,8 @@
 // written as two such texts.
 #![tactic(auto)]
 
+ghost use Rattle.std.specs.Prelude.{◌≡◌};
+
 mod header;
 mod reading;
 mod writing;
@@ -22,4 +24,15 @@ pub enum ReadAnswer {
 pub enum WriteAnswer {
     Texts { lengths: usize, weights: usize },
     Refused(Refusal),
+}
+
+// A refusal that names no row.
+fn rowless(number: u8) -> Refusal
+    ensures { result ≡ record { number = number; row = 0; ring = 0 } }
+{
+    Refusal {
+        number,
+        row: 0,
+        ring: 0,
+    }
 }

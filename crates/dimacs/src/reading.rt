@@ -3,46 +3,26 @@
 ghost use Rattle.std.specs.Prelude.{◌≡◌, true, false, ◌+◌, ◌*◌, ◌≤◌, ◌<◌, length};
 ghost use Rattle.tree.specs.Accept.{Begins};
 ghost use Rattle.roads.specs.work.Whole.{BothSay};
-ghost use Rattle.dimacs.specs.Read.{read_refused, read_refusal, GivesTable, ReadOf};
+ghost use Rattle.dimacs.specs.Read.{read_refusal, GivesTable, ReadOf};
 
-use crate::ReadAnswer;
 use crate::header::put_header;
+use crate::{ReadAnswer, rowless};
 use roads::Texts;
-use tree::{Acceptance, Refusal};
-
-// A refusal that names no row.
-fn refused(number: u8) -> ReadAnswer
-    ensures { result ≡ read_refused number 0 0 }
-{
-    ReadAnswer::Refused(Refusal {
-        number,
-        row: 0,
-        ring: 0,
-    })
-}
+use tree::Acceptance;
 
 // Whether there is no room for the table of so many arcs, two a branch: 12 + 6 * arcs bytes, which is never computed
 // where it would not fit.
 fn no_room(room: usize, arcs: usize) -> bool
     ensures { (result ≡ true → room < 12 + 6 * arcs) × (result ≡ false → 12 + 6 * arcs ≤ room) }
 {
-    if room < 12 {
-        return true;
-    }
-    (room - 12) / 6 < arcs
+    room < 12 || (room - 12) / 6 < arcs
 }
 
 // Why a table of more than 4,095 rows is refused: by its node count, or else by its size.
 fn too_many(nodes: u16) -> u8
     ensures { ((1 ≤ nodes) × (nodes ≤ 4096) → result ≡ 6) × (((1 ≤ nodes) × (nodes ≤ 4096) → ⊥) → result ≡ 4) }
 {
-    if nodes < 1 {
-        return 4;
-    }
-    if 4096 < nodes {
-        return 4;
-    }
-    6
+    if nodes < 1 || 4096 < nodes { 4 } else { 6 }
 }
 
 // 1 to 11 on a table made; one that is accepted goes into the lent bytes.
@@ -51,8 +31,7 @@ fn give(made: &[u8], table: &mut [u8]) -> ReadAnswer
     ensures { Begins _ (read_refusal table.old) made.now
         (GivesTable table.old made.now) (result, table.new) }
 {
-    let o = tree::accept(made);
-    match o {
+    match tree::accept(made) {
         Acceptance::Refused(why) => ReadAnswer::Refused(why),
         Acceptance::Accepted { nodes: _, bound: _ } => {
             ReadAnswer::Table {
@@ -63,31 +42,27 @@ fn give(made: &[u8], table: &mut [u8]) -> ReadAnswer
 }
 
 // Two texts that agree: the header, then 27 and 28 and the rows, 29, and the table.
-fn trade(
-    lengths: &[u8],
-    i: usize,
-    weights: &[u8],
-    j: usize,
-    nodes: u16,
-    arcs: usize,
-    bound: u32,
-    table: &mut [u8],
-) -> ReadAnswer
-    requires { BothSay lengths.now weights.now nodes arcs i j }
+fn trade(lengths: &[u8], weights: &[u8], texts: Texts, bound: u32, table: &mut [u8]) -> ReadAnswer
+    requires { BothSay lengths.now weights.now texts.nodes texts.arcs texts.lengths texts.weights }
     ensures { ReadOf lengths.now weights.now bound table.old
         (result, table.new) }
 {
+    let Texts {
+        nodes,
+        arcs,
+        lengths: i,
+        weights: j,
+    } = texts;
     let mut made: [u8; 49152] = [0; 49152];
     put_header(&mut made, nodes, bound);
-    let k = arcs::rows(lengths, i, weights, j, nodes, arcs, &mut made);
-    if k != 0 {
-        return refused(k);
+    if let Err(number) = arcs::rows(lengths, i, weights, j, nodes, arcs, &mut made) {
+        return ReadAnswer::Refused(rowless(number));
     }
     if no_room(table.len(), arcs) {
-        return refused(29);
+        return ReadAnswer::Refused(rowless(29));
     }
     if 8190 < arcs {
-        return refused(too_many(nodes));
+        return ReadAnswer::Refused(rowless(too_many(nodes)));
     }
     give(&made[..12 + 6 * arcs], table)
 }
@@ -98,14 +73,8 @@ pub fn read(lengths: &[u8], weights: &[u8], bound: u32, table: &mut [u8]) -> Rea
     ensures { ReadOf lengths.now weights.now bound table.old
         (result, table.new) }
 {
-    let t = roads::both(lengths, weights);
-    match t {
-        Texts::Refused(k) => refused(k),
-        Texts::Agreed {
-            nodes,
-            arcs,
-            lengths: i,
-            weights: j,
-        } => trade(lengths, i, weights, j, nodes, arcs, bound, table),
+    match roads::both(lengths, weights) {
+        Err(number) => ReadAnswer::Refused(rowless(number)),
+        Ok(texts) => trade(lengths, weights, texts, bound, table),
     }
 }

@@ -2,11 +2,11 @@
 // refusal has written nothing.
 ghost use Rattle.std.specs.Prelude.{◌≡◌};
 ghost use Rattle.net.specs.work.Net.{Net};
-ghost use Rattle.dimacs.specs.Write.{write_refused, GivesTexts, VersionOne, WriteOf};
+ghost use Rattle.dimacs.specs.Write.{GivesTexts, VersionOne, WriteOf};
 
-use crate::WriteAnswer;
+use crate::{WriteAnswer, rowless};
 use roads::{LENGTH_TOP, WEIGHT_TOP};
-use tree::{Acceptance, Refusal};
+use tree::Acceptance;
 use written::{put_text, text_size};
 
 // Where a row has its length and its weight.
@@ -14,31 +14,14 @@ const LENGTH: usize = 4;
 
 const WEIGHT: usize = 8;
 
-// A refusal that names no row.
-fn refused(number: u8) -> WriteAnswer
-    ensures { result ≡ write_refused number 0 0 }
-{
-    WriteAnswer::Refused(Refusal {
-        number,
-        row: 0,
-        ring: 0,
-    })
-}
-
-// Between crates: 1, 2, and 3 for any version but 1; or 0.
+// Between crates: 1, 2, and 3 for any version but 1; or 0, as `VersionOne` promises it.
 pub fn version_one(s: &[u8]) -> u8
     ensures { VersionOne _ (λ k r g. k) s.now (λ k. k ≡ 0) result }
 {
     if s.len() < 12 {
         return 1;
     }
-    if s[0] != 82 {
-        return 2;
-    }
-    if s[1] != 84 {
-        return 2;
-    }
-    if s[2] != 78 {
+    if s[0] != b'R' || s[1] != b'T' || s[2] != b'N' {
         return 2;
     }
     if numbers::two(s, 3) != 1 {
@@ -55,11 +38,8 @@ fn write_net(s: &[u8], nodes: u16, lengths: &mut [u8], weights: &mut [u8]) -> Wr
 {
     let a = text_size(s, nodes, LENGTH_TOP, LENGTH);
     let b = text_size(s, nodes, WEIGHT_TOP, WEIGHT);
-    if lengths.len() < a {
-        return refused(29);
-    }
-    if weights.len() < b {
-        return refused(29);
+    if lengths.len() < a || weights.len() < b {
+        return WriteAnswer::Refused(rowless(29));
     }
     put_text(lengths, s, nodes, LENGTH_TOP, LENGTH);
     put_text(weights, s, nodes, WEIGHT_TOP, WEIGHT);
@@ -76,10 +56,9 @@ pub fn write(s: &[u8], lengths: &mut [u8], weights: &mut [u8]) -> WriteAnswer
 {
     let k = version_one(s);
     if k != 0 {
-        return refused(k);
+        return WriteAnswer::Refused(rowless(k));
     }
-    let o = tree::accept(s);
-    match o {
+    match tree::accept(s) {
         Acceptance::Refused(why) => WriteAnswer::Refused(why),
         Acceptance::Accepted { nodes, bound: _ } => write_net(s, nodes, lengths, weights),
     }

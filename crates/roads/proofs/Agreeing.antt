@@ -5,39 +5,41 @@ use mathlib.Core.List.{List}
 use Prim.Native.Nat.{ℕ, ◌*◌, ◌≤◌, ◌<◌}
 use native.Mathlib.Omega.{arith}
 use lib.ListN.{length, length-drop}
+use Rattle.std.proofs.Common.{Some, None, Ok, Err}
 use Rattle.table.specs.Refuse.{passed}
 use Rattle.table.specs.Refuse as refuse
 use Rattle.table.proofs.Refusals.{unless_map}
 use Rattle.roads.specs.Text.{Said}
 use Rattle.roads.specs.Both.{Reads, unread, read}
 use Rattle.roads.specs.work.Whole.{Surveyed, SurveyOf, whole, silent, BothSay, TextsOf, agreed, refused}
-use Rattle.roads.specs.declared.whole.Survey.TheVariants.{Numbers, Unread}
-use Rattle.roads.specs.declared.whole.Texts.TheVariants.{Agreed, Refused}
+use Rattle.roads.specs.declared.whole.Survey.{Survey}
+use Rattle.roads.specs.declared.whole.Texts.{Texts}
 use Rattle.roads.proofs.Stepping.{lines_long, nodes_fit}
 
-survey_few : {top low : ℕ} {s : List ℕ} {n c i k : ℕ} → Surveyed top low s n c i k → 8 * k ≤ length s
-survey_few {s = s} {i = i} a = omega (arith, a.arcs, lines_long a.lines, length-drop i s)
+survey_few : {top low : ℕ} {s : List ℕ} {o : Survey} → Surveyed top low s o → 8 * o.arcs ≤ length s
+survey_few {s = s} {o = o} a = omega (arith, a.arcs, lines_long a.lines, length-drop o.first s)
 
 module _ {s w : List ℕ} where
-  pub unread_lengths : SurveyOf 4294967295 0 s Unread → TextsOf s w (Refused 25)
+  pub unread_lengths : SurveyOf 4294967295 0 s None → TextsOf s w (Err 25)
   unread_lengths (silent f) = refused (unread (λ a b x y. f a x))
 
-  pub unread_weights : SurveyOf 2147483647 2147483648 w Unread → TextsOf s w (Refused 25)
+  pub unread_weights : SurveyOf 2147483647 2147483648 w None → TextsOf s w (Err 25)
   unread_weights (silent f) = refused (unread (λ a b x y. f b y))
 
-  module _ {n c i k m d j l : ℕ} (short : length s < 18446744073709551616)
+  module _ {x y : Survey} (short : length s < 18446744073709551616)
       (brief : length w < 18446744073709551616) where
-    pub disagree : SurveyOf 4294967295 0 s (Numbers n c i k) → SurveyOf 2147483647 2147483648 w (Numbers m d j l)
-        → (n ≡ m → c ≡ d → c ≡ k → d ≡ l → ⊥) → TextsOf s w (Refused 26)
+    pub disagree : SurveyOf 4294967295 0 s (Some x) → SurveyOf 2147483647 2147483648 w (Some y)
+        → (x.nodes ≡ y.nodes → x.count ≡ y.count → x.count ≡ x.arcs → y.count ≡ y.arcs → ⊥) → TextsOf s w (Err 26)
     disagree (whole a) (whole b) f = refused (read a.says b.says (refuse.refused λ g. f
         (a.nodes ∙ g.nodes ∙ sym b.nodes)
         (omega (arith, g.count, a.count, b.count))
         (omega (arith, g.lengths, a.count, a.arcs, survey_few a))
         (omega (arith, g.weights, b.count, b.arcs, survey_few b))))
 
-    pub agree : SurveyOf 4294967295 0 s (Numbers n c i k) → SurveyOf 2147483647 2147483648 w (Numbers m d j l)
-        → n ≡ m → c ≡ d → c ≡ k → d ≡ l → TextsOf s w (Agreed n k i j)
-    agree (whole a) (whole b) e f g h = agreed {j = j} (record {
+    pub agree : SurveyOf 4294967295 0 s (Some x) → SurveyOf 2147483647 2147483648 w (Some y)
+        → x.nodes ≡ y.nodes → x.count ≡ y.count → x.count ≡ x.arcs → y.count ≡ y.arcs
+        → TextsOf s w (Ok (record { nodes = x.nodes; arcs = x.arcs; lengths = x.first; weights = y.first }))
+    agree (whole a) (whole b) e f g h = agreed (record {
       lengths = a.said;
       weights = b.said;
       lengths_said = a.says;
@@ -57,7 +59,7 @@ module _ {s w : List ℕ} where
 
 -- an operation that begins so
 module _ {A : Type 0} {refusal : ℕ → A} {s w : List ℕ} {rest : Said → Said → A → Type 0} where
-  pub refused_on : {k : ℕ} → TextsOf s w (Refused k) → Reads A refusal s w rest (refusal k)
+  pub refused_on : {k : ℕ} → TextsOf s w (Err k) → Reads A refusal s w rest (refusal k)
   refused_on (refused (unread n)) = unread n
   refused_on (refused (read x y u)) = read x y (unless_map refusal (λ k f. absurd f) u)
 
@@ -65,10 +67,10 @@ module _ {A : Type 0} {refusal : ℕ → A} {s w : List ℕ} {rest : Said → Sa
       → Reads A refusal s w rest x
   agreed_on b r = read b.lengths_said b.weights_said (passed b.agree r)
 
-module _ {s w : List ℕ} {n k i j : ℕ} where
-  pub both_say : TextsOf s w (Agreed n k i j) → BothSay s w n k i j
-  both_say (agreed b) = b
+pub both_say : {s w : List ℕ} {o : Texts} → TextsOf s w (Ok o) → BothSay s w o.nodes o.arcs o.lengths o.weights
+both_say (agreed b) = b
 
+module _ {s w : List ℕ} {n k i j : ℕ} where
   pub both_nodes : BothSay s w n k i j → n ≤ 65535
   both_nodes b = omega (arith, b.nodes, nodes_fit b.lengths_said)
 

@@ -2,17 +2,16 @@
 -- line by line, up to a line that is none. Each loop's invariant says what was passed.
 use mathlib.Core.Path.{◌≡◌, refl, sym, ap, ◌∙◌}
 use mathlib.Core.List.{List, [], ◌∷◌, ◌++◌, append-nil}
-use Prim.Native.Nat.{ℕ, ◌+◌, ◌-◌, ◌≤◌, ◌<◌}
+use Prim.Native.Nat.{ℕ, ◌+◌, ◌≤◌, ◌<◌}
 use native.Mathlib.Omega.{arith}
-use native.Mathlib.Nat.{add-zero}
-use native.Mathlib.Numerals.{add-one}
-use lib.ListN.{length, get_or, take, drop, length-append, length-drop, drop_of_length-le, get_or-append}
-use lib.Seq.{get_or-drop, take-suc, take_all}
+use lib.ListN.{length, get_or, drop, length-append, length-drop, drop_of_length-le}
+use Rattle.std.proofs.Common.{Some, None, slice_range}
+use Rattle.std.proofs.lemmas.List.{drop-drop}
+use Rattle.std.proofs.lemmas.List.Folds.{drop_split}
 use Rattle.roads.specs.Text.{Plain, none, next, Comment}
 use Rattle.roads.specs.work.Scanned.{Further}
 use Rattle.roads.specs.work.Line.{EndOf, ended, unended, WordOf, stands, elsewhere, Comments, PastComments}
 use Rattle.roads.specs.work.Line as work
-use Rattle.roads.specs.declared.line.Place.TheVariants.{At, Nowhere}
 use Rattle.roads.proofs.Places.{from_place, byte_there, passed_more, empty_not, empty_within}
 
 -- The end of a line
@@ -44,46 +43,38 @@ module _ {s : List ℕ} {at i : ℕ} (k : Skip s at i) where
     on = omega (arith, k.on);
   }
 
-  pub skip_found : i < length s → get_or s i 0 ≡ 10 → EndOf s at (At (i + 1))
+  pub skip_found : i < length s → get_or s i 0 ≡ 10 → EndOf s at (Some (i + 1))
   skip_found h e = ended {next = i + 1} k.said (rw (← byte_there s i 10 h e) k.spelt) k.plain
       (record { on = omega (arith, k.on); within = omega arith })
 
-  pub skip_out : length s ≤ i → EndOf s at Nowhere
+  pub skip_out : length s ≤ i → EndOf s at None
   skip_out h =
       let z : drop i s ≡ [] = drop_of_length-le s h in
       let g : drop at s ≡ k.said ++ [] = rw z at k.spelt in
       unended λ t r e. plain_whole k.plain t r (sym (append-nil k.said) ∙ sym g ∙ e)
 
--- A word
-module _ {s : List ℕ} {at : ℕ} (w : List ℕ) where
-  pub word_short : length s - at < length w → WordOf s at w Nowhere
-  word_short h = elsewhere λ r e. omega (arith, ap length e, length-append w r, length-drop at s)
+-- A word: x is what stands at the place
+module _ {x : List ℕ} (s : List ℕ) {at : ℕ} (w : List ℕ) where
+  there : at ≤ length s → x ≡ slice_range s at (length s) → drop at s ≡ x
+  there h e =
+      let z : drop (length s) s ≡ [] = drop_of_length-le s (omega arith) in
+      drop_split s at (length s) h ∙ rw (z, ← e, append-nil x) refl
 
-  pub word_other : {i : ℕ} → i < length w → (get_or s (at + i) 0 ≡ get_or w i 0 → ⊥) → WordOf s at w Nowhere
-  word_other {i} h n = elsewhere λ r e.
-      n (sym (get_or-drop at s i 0) ∙ ap (λ (l : List ℕ). get_or l i 0) e ∙ get_or-append w r 0 i h)
+  pub word_found : at ≤ length s → 1 ≤ length w → x ≡ slice_range s at (length s) → x ≡ w ++ drop (length w) x
+      → WordOf s at w (Some (at + length w))
+  word_found h o e f =
+      let z = there h e in
+      let k : drop (length w) x ≡ drop (at + length w) s = rw (← z) (drop-drop (length w) at s) in
+      let g : drop at s ≡ w ++ drop (at + length w) s = rw k at (z ∙ f) in
+      let l : at + length w ≤ length s = omega (arith, ap length f, ap length z, length-drop at s, length-append w (drop (length w) x)) in
+      stands {next = at + length w} g (record { on = omega arith; within = l })
 
--- the first i bytes of the word stand there
-pub record Matching (s : List ℕ) (at : ℕ) (w : List ℕ) (i : ℕ) : Type 0 where
-  pub spelt : drop at s ≡ take i w ++ drop (at + i) s
-  pub within : i ≤ length w
-  pub long : at + length w ≤ length s
-  pub some : 1 ≤ length w
+  pub word_other : at ≤ length s → x ≡ slice_range s at (length s) → ((r : List ℕ) → x ≡ w ++ r → ⊥)
+      → WordOf s at w None
+  word_other h e n = elsewhere λ r f. n r (sym (there h e) ∙ f)
 
-pub matching_none : (s : List ℕ) (at : ℕ) (w : List ℕ) → at + length w ≤ length s → 1 ≤ length w → Matching s at w 0
-matching_none s at w h o = record { spelt = rw (add-zero at) refl; within = omega arith; long = h; some = o }
-
-module _ {s : List ℕ} {at : ℕ} {w : List ℕ} {i : ℕ} (k : Matching s at w i) where
-  pub matching_more : i < length w → get_or s (at + i) 0 ≡ get_or w i 0 → Matching s at w (i + 1)
-  matching_more h e =
-      let f : at + (i + 1) ≡ at + i + 1 = omega arith in
-      let g : at + i < length s = omega (arith, k.long) in
-      let z = rw e at (passed_more (take i w) s (at + i) g k.spelt) in
-      record { spelt = rw (f, add-one i, take-suc w i 0 h) z; within = omega arith; long = k.long; some = k.some }
-
-  pub matching_done : length w ≤ i → WordOf s at w (At (at + i))
-  matching_done h = stands {next = at + i} (rw (take_all i w h) at k.spelt)
-      (record { on = omega (arith, k.some); within = omega (arith, k.within, k.long) })
+pub word_past : {s : List ℕ} {at : ℕ} (w : List ℕ) → length s < at → 1 ≤ length w → WordOf s at w None
+word_past {s} {at} w h o = elsewhere λ r e. omega (arith, ap length e, length-append w r, length-drop at s)
 
 -- Comments
 pub record Passing (s : List ℕ) (at i : ℕ) : Type 0 where
@@ -94,7 +85,7 @@ pub passing_none : (s : List ℕ) (at : ℕ) → Passing s at at
 passing_none s at = record { comments = work.none; on = omega arith }
 
 module _ {s : List ℕ} {at i : ℕ} (k : Passing s at i) where
-  pub passing_more : {next : ℕ} → i < length s → get_or s i 0 ≡ 99 → EndOf s (i + 1) (At next)
+  pub passing_more : {next : ℕ} → i < length s → get_or s i 0 ≡ 99 → EndOf s (i + 1) (Some next)
       → Passing s at next × Further s i next
   passing_more {next} h e (ended said f p m) =
       let g = byte_there s i 99 h e in
@@ -109,7 +100,7 @@ module _ {s : List ℕ} {at i : ℕ} (k : Passing s at i) where
   pub passing_other : i < length s → (get_or s i 0 ≡ 99 → ⊥) → PastComments s at i
   passing_other h n = let e = from_place s i h in stop (λ r p. n (cc (e, p.spelt)))
 
-  pub passing_unended : i < length s → EndOf s (i + 1) Nowhere → PastComments s at i
+  pub passing_unended : i < length s → EndOf s (i + 1) None → PastComments s at i
   passing_unended h (unended f) = let e = from_place s i h in stop (λ r p. f p.said r (cc (e, p.spelt)))
 
   pub passing_out : length s ≤ i → PastComments s at i

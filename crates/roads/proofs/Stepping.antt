@@ -7,6 +7,7 @@ use mathlib.Core.List.{List, [], ◌∷◌}
 use Prim.Native.Nat.{ℕ, ◌+◌, ◌*◌, ◌≤◌, ◌<◌}
 use native.Mathlib.Omega.{arith}
 use lib.ListN.{length, drop, length-append}
+use Rattle.std.proofs.Common.{Option, Some, None}
 use Rattle.arrays.specs.Members.{In}
 use Rattle.arrays.specs.Members as members
 use Rattle.text.specs.Word.{word}
@@ -16,7 +17,6 @@ use Rattle.roads.specs.work.Scanned.{Further}
 use Rattle.roads.specs.work.Line.{Comments, none, more, PastComments, ArcOf, arc_of, joins, other}
 use Rattle.roads.specs.work.Whole.{StepOf, to, end, ArcFits}
 use Rattle.roads.specs.declared.line.Step.{Step}
-use Rattle.roads.specs.declared.line.Step.TheVariants.{To, End}
 use Rattle.roads.proofs.Fields.{field_long, number_long, number_bits}
 use Rattle.roads.proofs.Only.{lines_comment, lines_arc, says_comment}
 
@@ -53,33 +53,34 @@ module _ {top low n : ℕ} where
   lines_other f g (arc e x) = absurd (g _ _ e)
 
   -- the code's step
-  pub step_read : {s : List ℕ} {at i : ℕ} {q : Step} → PastComments s at i → ArcOf top low n s i q
+  pub step_read : {s : List ℕ} {at i : ℕ} {q : Option Step} → PastComments s at i → ArcOf top low n s i q
       → StepOf top low n s at q
-  step_read p (joins {next = next} e m) =
-      to {next = next} p.comments e (record { on = omega (arith, p.on, m.on); within = m.within })
+  step_read p (joins e m) =
+      to p.comments e (record { on = omega (arith, p.on, m.on); within = m.within })
   step_read p (other f) = end λ e l x.
       let w = lines_other p.no_comment f (lines_down p.comments x) in
       let z : ◌≡◌ {A = ℕ} 0 1 = cc w.1 in
       omega arith
 
   -- a step takes the first of the arcs still to come, and where it takes none there is none
-  pub step_arcs : {s : List ℕ} {at u v x next : ℕ} {e : Arc} {l : List Arc} → StepOf top low n s at (To u v x next)
-      → Lines top low n (drop at s) (e ∷ l) → (arc_of u v x ≡ e) × Lines top low n (drop next s) l
+  pub step_arcs : {s : List ℕ} {at : ℕ} {o : Step} {e : Arc} {l : List Arc} → StepOf top low n s at (Some o)
+      → Lines top low n (drop at s) (e ∷ l)
+      → (arc_of o.from o.to o.number ≡ e) × Lines top low n (drop o.next s) l
   step_arcs {l = l} (to c a m) x =
       let w = lines_arc a (lines_down c x) in
       let k : w.0 ≡ l = cc w.1 in
       (cc w.1, rw k at w.2)
 
-  pub step_end : {s : List ℕ} {at : ℕ} {l : List Arc} → StepOf top low n s at End → Lines top low n (drop at s) l
+  pub step_end : {s : List ℕ} {at : ℕ} {l : List Arc} → StepOf top low n s at None → Lines top low n (drop at s) l
       → l ≡ []
   step_end {l = []} (end f) x = refl
   step_end {l = e ∷ l} (end f) x = absurd (f e l x)
 
-  pub step_past : {s : List ℕ} {at u v x next : ℕ} → StepOf top low n s at (To u v x next)
+  pub step_past : {s : List ℕ} {at : ℕ} {o : Step} → StepOf top low n s at (Some o)
       → Lines top low n (drop at s) [] → ⊥
   step_past (to c a m) x = let w = lines_arc a (lines_down c x) in let z : ◌≡◌ {A = ℕ} 0 1 = cc w.1 in omega arith
 
-  pub step_further : {s : List ℕ} {at u v x next : ℕ} → StepOf top low n s at (To u v x next) → Further s at next
+  pub step_further : {s : List ℕ} {at : ℕ} {o : Step} → StepOf top low n s at (Some o) → Further s at o.next
   step_further (to c a m) = m
 
 -- an arc's line has 8 bytes or more

@@ -6,14 +6,13 @@ use mathlib.Core.List.{List, [], ◌∷◌, ◌++◌, append_assoc, append-nil}
 use Prim.Native.Nat.{ℕ, ◌+◌, ◌*◌, ◌≤◌, ◌<◌}
 use native.Mathlib.Omega.{arith}
 use lib.ListN.{length, drop, length-append, length-drop, drop_of_length-le}
+use Rattle.std.proofs.Common.{Some, None}
 use Rattle.roads.specs.Text.{Arc, Comment, Lines, done, arc, problem}
 use Rattle.roads.specs.work.Scanned.{Further}
 use Rattle.roads.specs.work.Line.{PastComments, ProblemOf, counts, missing, ArcOf, arc_of, joins, other}
 use Rattle.roads.specs.work.Whole.{CountOf, arcs, broken, SurveyOf, whole, silent}
-use Rattle.roads.specs.declared.line.PLine.TheVariants.{Counts, Missing}
-use Rattle.roads.specs.declared.line.Step.TheVariants.{To, End}
-use Rattle.roads.specs.declared.whole.Counted.TheVariants.{Arcs, Broken}
-use Rattle.roads.specs.declared.whole.Survey.TheVariants.{Numbers, Unread}
+use Rattle.roads.specs.declared.line.Counts.{Counts}
+use Rattle.roads.specs.declared.line.Step.{Step}
 use Rattle.roads.proofs.Only.{lines_arc, says_problem}
 use Rattle.roads.proofs.Stepping.{says_up, says_down, says_other, lines_up, lines_down, lines_other, arc_long}
 
@@ -38,14 +37,14 @@ counting_none top low n p = record {
 }
 
 module _ {top low n : ℕ} {s : List ℕ} {first i k : ℕ} (c : Counting top low n s first i k) where
-  pub counting_more : {u v x next j : ℕ} → ArcOf top low n s i (To u v x next) → PastComments s next j
+  pub counting_more : {o : Step} {j : ℕ} → ArcOf top low n s i (Some o) → PastComments s o.next j
       → Counting top low n s first j (k + 1)
-  counting_more {u} {v} {x} {next} {j} (joins a m) p =
-      let e = arc_of u v x in
+  counting_more {o} {j} (joins a m) p =
+      let e = arc_of o.from o.to o.number in
       record {
         said = c.said ++ e ∷ [];
         count = omega (arith, c.count, length-append c.said (e ∷ []));
-        few = omega (arith, c.few, arc_long a, length-drop i s, length-drop next s, m.on, m.within, p.on);
+        few = omega (arith, c.few, arc_long a, length-drop i s, length-drop o.next s, m.on, m.within, p.on);
         no_comment = p.no_comment;
         up = λ l y. rw (append_assoc c.said (e ∷ []) l) (c.up (e ∷ l) (arc a (lines_up p.comments y)));
         down = λ l y.
@@ -54,34 +53,34 @@ module _ {top low n : ℕ} {s : List ℕ} {first i k : ℕ} (c : Counting top lo
             (g.0, h.1 ∙ rw (append_assoc c.said (e ∷ []) g.0, ← g.1) refl, lines_down p.comments g.2);
       }
 
-  pub counting_bad : i < length s → ArcOf top low n s i End → CountOf top low n s first Broken
+  pub counting_bad : i < length s → ArcOf top low n s i None → CountOf top low n s first None
   counting_bad h (other f) = broken λ l x.
       let w = lines_other c.no_comment f (c.down l x).2 in omega (arith, ap length w.0, length-drop i s)
 
-  pub counting_done : length s ≤ i → CountOf top low n s first (Arcs k)
+  pub counting_done : length s ≤ i → CountOf top low n s first (Some k)
   counting_done h =
       let e : drop i s ≡ [] = drop_of_length-le s h in
       let d : Lines top low n (drop i s) [] = rw e done in
       arcs {k = k} (c.up [] d) (rw (append-nil c.said) c.count)
 
-pub arc_further : {top low n : ℕ} {s : List ℕ} {at u v x next : ℕ} → ArcOf top low n s at (To u v x next)
-    → Further s at next
+pub arc_further : {top low n : ℕ} {s : List ℕ} {at : ℕ} {o : Step} → ArcOf top low n s at (Some o)
+    → Further s at o.next
 arc_further (joins a m) = m
 
 -- the p line, and then the arcs
 module _ {top low : ℕ} {s : List ℕ} {i : ℕ} (p : PastComments s 0 i) where
-  pub survey_headless : ProblemOf s i Missing → SurveyOf top low s Unread
+  pub survey_headless : ProblemOf s i None → SurveyOf top low s None
   survey_headless (missing f) = silent λ a x. says_other p.no_comment f (says_down p.comments x)
 
-  pub survey_broken : {n c next : ℕ} → ProblemOf s i (Counts n c next) → CountOf top low n s next Broken
-      → SurveyOf top low s Unread
+  pub survey_broken : {o : Counts} → ProblemOf s i (Some o) → CountOf top low o.nodes s o.next None
+      → SurveyOf top low s None
   survey_broken (counts q _ _) (broken f) = silent λ a x.
       let w = says_problem q (says_down p.comments x) in f w.0 w.2
 
-  pub survey_whole : {n c next k : ℕ} → ProblemOf s i (Counts n c next) → CountOf top low n s next (Arcs k)
-      → SurveyOf top low s (Numbers n c next k)
-  survey_whole {n} (counts {m = m} q c _) (arcs {l = l} x e) = whole (record {
-    said = record { nodes = n; count = m; arcs = l };
+  pub survey_whole : {o : Counts} {k : ℕ} → ProblemOf s i (Some o) → CountOf top low o.nodes s o.next (Some k)
+      → SurveyOf top low s (Some (record { nodes = o.nodes; count = o.count; first = o.next; arcs = k }))
+  survey_whole {o} (counts {m = m} q c _) (arcs {l = l} x e) = whole (record {
+    said = record { nodes = o.nodes; count = m; arcs = l };
     says = says_up p.comments (problem q x);
     nodes = refl;
     count = c;

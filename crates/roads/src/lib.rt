@@ -7,7 +7,7 @@ mod line;
 mod number;
 mod whole;
 
-pub use line::Step;
+pub use line::{Kind, Step};
 pub use whole::{Texts, both, next_arc};
 
 // A text's kind is the range of its arcs' numbers, -LOW to TOP: lengths are 32 bits unsigned, weights 32 bits signed.

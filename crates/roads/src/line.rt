@@ -1,55 +1,43 @@
 // One line at a place of a text: comments are passed, the p line and the line of an arc are read.
-ghost use Rattle.std.specs.Prelude.{◌≤◌, ◌<◌, length};
-ghost use Rattle.roads.specs.work.Line.{EndOf, WordOf, PastComments, ProblemOf, ArcOf};
+ghost use Rattle.std.specs.Prelude.{◌≤◌, length};
+ghost use Rattle.roads.specs.work.Line.{EndOf, WordOf, PastComments, ProblemOf, KindFits, ArcOf};
 
-use crate::number::{Scanned, arc_number, bounded, field};
+use crate::number::{LINE_END, Scanned, arc_number, bounded, field};
 
-// A place further on, or that there is none.
-#[derive(Drop)]
-pub(crate) enum Place {
-    At(usize),
-    Nowhere,
+const SPACE: u8 = b' ';
+
+const COMMENT: u8 = b'c';
+
+// How the arcs of a text are read: nodes from 1 to `nodes`, numbers from -low to top.
+#[derive(Clone, Copy)]
+pub struct Kind {
+    pub nodes: u16,
+    pub top: u64,
+    pub low: u64,
 }
 
-const LINE_END: u8 = 10;
-
-const SPACE: u8 = 32;
-
-const COMMENT: u8 = 99;
-
 // The place after the first line feed from a place on.
-fn line_end(s: &[u8], at: usize) -> Place
+fn line_end(s: &[u8], at: usize) -> Option<usize>
     ensures { EndOf s.now at result }
 {
-    let mut i = at;
-    while i < s.len() {
+    for i in at..s.len() {
         if s[i] == LINE_END {
-            return Place::At(i + 1);
+            return Some(i + 1);
         }
-        i += 1;
     }
-    Place::Nowhere
+    None
 }
 
 // The place after a word that stands at a place.
-fn after_word(s: &[u8], at: usize, word: &[u8]) -> Place
+fn after_word(s: &[u8], at: usize, word: &[u8]) -> Option<usize>
     requires { 1 ≤ length word.now }
     ensures { WordOf s.now at word.now result }
 {
-    if s.len() <= at {
-        return Place::Nowhere;
+    if s.get(at..)?.starts_with(word) {
+        Some(at + word.len())
+    } else {
+        None
     }
-    if s.len() - at < word.len() {
-        return Place::Nowhere;
-    }
-    let mut i: usize = 0;
-    while i < word.len() {
-        if s[at + i] != word[i] {
-            return Place::Nowhere;
-        }
-        i += 1;
-    }
-    Place::At(at + i)
 }
 
 // The place of the first line from a place on that is no comment.
@@ -61,7 +49,7 @@ pub(crate) fn past_comments(s: &[u8], at: usize) -> usize
         if s[i] != COMMENT {
             return i;
         }
-        let Place::At(next) = line_end(s, i + 1) else {
+        let Some(next) = line_end(s, i + 1) else {
             return i;
         };
         i = next;
@@ -69,66 +57,50 @@ pub(crate) fn past_comments(s: &[u8], at: usize) -> usize
     i
 }
 
-// The p line's two counts and the place after it, or that the line at a place is none.
-#[derive(Drop)]
-pub(crate) enum PLine {
-    Counts { nodes: u16, count: u64, next: usize },
-    Missing,
+// The p line's two counts and the place after it.
+#[derive(Clone, Copy)]
+pub(crate) struct Counts {
+    pub nodes: u16,
+    pub count: u64,
+    pub next: usize,
 }
 
-pub(crate) fn problem_line(s: &[u8], at: usize) -> PLine
+pub(crate) fn problem_line(s: &[u8], at: usize) -> Option<Counts>
     ensures { ProblemOf s.now at result }
 {
-    let Place::At(i) = after_word(s, at, b"p sp ") else {
-        return PLine::Missing;
-    };
-    let Scanned::Number { value: n, next: j } = bounded(s, i, SPACE, 0, 65535) else {
-        return PLine::Missing;
-    };
-    let Scanned::Number { value: count, next } = field(s, j, LINE_END) else {
-        return PLine::Missing;
-    };
-    PLine::Counts {
-        nodes: n as u16,
+    let i = after_word(s, at, b"p sp ")?;
+    let nodes = bounded(s, i, SPACE, 0, 65535)?;
+    let Scanned { value: count, next } = field(s, nodes.next, LINE_END)?;
+    Some(Counts {
+        nodes: nodes.value as u16,
         count,
         next,
-    }
+    })
 }
 
-// An arc, its number in 32 bits, and the place after its line; or that there is none.
-#[derive(Drop)]
-pub enum Step {
-    To {
-        from: u16,
-        to: u16,
-        number: u32,
-        next: usize,
-    },
-    End,
+// An arc, its number in 32 bits, and the place after its line.
+#[derive(Clone, Copy)]
+pub struct Step {
+    pub from: u16,
+    pub to: u16,
+    pub number: u32,
+    pub next: usize,
 }
 
-// The line of an arc between nodes from 1 to `nodes`, with a number from -low to top.
-pub(crate) fn arc_line(s: &[u8], at: usize, nodes: u16, top: u64, low: u64) -> Step
-    requires { (top < 4294967296) × (low < 4294967296) }
-    ensures { ArcOf top low nodes s.now at result }
+// The line of an arc.
+pub(crate) fn arc_line(s: &[u8], at: usize, kind: Kind) -> Option<Step>
+    requires { KindFits kind }
+    ensures { ArcOf kind.top kind.low kind.nodes s.now at result }
 {
-    let Place::At(i) = after_word(s, at, b"a ") else {
-        return Step::End;
-    };
-    let most = nodes as u64;
-    let Scanned::Number { value: u, next: j } = bounded(s, i, SPACE, 1, most) else {
-        return Step::End;
-    };
-    let Scanned::Number { value: v, next: k } = bounded(s, j, SPACE, 1, most) else {
-        return Step::End;
-    };
-    let Scanned::Number { value: x, next } = arc_number(s, k, top, low) else {
-        return Step::End;
-    };
-    Step::To {
-        from: u as u16,
-        to: v as u16,
-        number: x as u32,
-        next,
-    }
+    let i = after_word(s, at, b"a ")?;
+    let most = u64::from(kind.nodes);
+    let from = bounded(s, i, SPACE, 1, most)?;
+    let to = bounded(s, from.next, SPACE, 1, most)?;
+    let number = arc_number(s, to.next, kind.top, kind.low)?;
+    Some(Step {
+        from: from.value as u16,
+        to: to.value as u16,
+        number: number.value as u32,
+        next: number.next,
+    })
 }

@@ -1,28 +1,20 @@
 // Numbers at a place of a text: decimal digits with no leading zero, and the byte that ends them.
-ghost use Rattle.std.specs.Prelude.{◌≡◌, ◌≤◌, ◌<◌};
+ghost use Rattle.std.specs.Prelude.{◌≤◌, ◌<◌};
 ghost use Rattle.roads.specs.work.Scanned.{Longer, FieldOf, BoundedOf, ArcNumberOf};
 
-// A number and the place after the byte that ends it, or that there is none. Any digits are a number: from 10^19 on it
-// is carried as 10^19, which is above every bound.
-#[derive(Drop)]
-pub(crate) enum Scanned {
-    Number { value: u64, next: usize },
-    Nothing,
+// A number and the place after the byte that ends it. Any digits are a number: from 10^19 on it is carried as 10^19,
+// which is above every bound.
+#[derive(Clone, Copy)]
+pub(crate) struct Scanned {
+    pub value: u64,
+    pub next: usize,
 }
 
 const MOST: u64 = 10000000000000000000;
 
-const MINUS: u8 = 45;
+const MINUS: u8 = b'-';
 
-const ZERO: u8 = 48;
-
-const NINE: u8 = 57;
-
-fn wide(x: u8) -> u64
-    ensures { (result ≡ x) × (result < 256) }
-{
-    x as u64
-}
+pub(crate) const LINE_END: u8 = b'\n';
 
 // One digit more.
 fn longer(x: u64, b: u8) -> u64
@@ -32,82 +24,58 @@ fn longer(x: u64, b: u8) -> u64
     if MOST / 10 <= x {
         return MOST;
     }
-    10 * x + (wide(b) - 48)
+    10 * x + u64::from(b - b'0')
 }
 
 // The number that ends with the byte `end`, which is no digit.
-pub(crate) fn field(s: &[u8], at: usize, end: u8) -> Scanned
+pub(crate) fn field(s: &[u8], at: usize, end: u8) -> Option<Scanned>
     requires { end < 48 }
     ensures { FieldOf s.now at end result }
 {
-    if s.len() <= at {
-        return Scanned::Nothing;
+    let first = *s.get(at)?;
+    if !first.is_ascii_digit() {
+        return None;
     }
-    let first = s[at];
-    if first < ZERO {
-        return Scanned::Nothing;
-    }
-    if NINE < first {
-        return Scanned::Nothing;
-    }
-    let mut x = wide(first) - 48;
-    let mut i = at + 1;
-    while i < s.len() {
+    let mut x = u64::from(first - b'0');
+    for i in at + 1..s.len() {
         let b = s[i];
         if b == end {
-            return Scanned::Number {
+            return Some(Scanned {
                 value: x,
                 next: i + 1,
-            };
+            });
         }
-        if b < ZERO {
-            return Scanned::Nothing;
-        }
-        if NINE < b {
-            return Scanned::Nothing;
-        }
-        if x == 0 {
-            return Scanned::Nothing;
+        if !b.is_ascii_digit() || x == 0 {
+            return None;
         }
         x = longer(x, b);
-        i += 1;
     }
-    Scanned::Nothing
+    None
 }
 
 // The same of a number from `low` to `high` alone.
-pub(crate) fn bounded(s: &[u8], at: usize, end: u8, low: u64, high: u64) -> Scanned
+pub(crate) fn bounded(s: &[u8], at: usize, end: u8, low: u64, high: u64) -> Option<Scanned>
     requires { (end < 48) × (high < 10000000000000000000) }
     ensures { BoundedOf s.now at end low high result }
 {
-    let Scanned::Number { value, next } = field(s, at, end) else {
-        return Scanned::Nothing;
-    };
-    if value < low {
-        return Scanned::Nothing;
+    let number = field(s, at, end)?;
+    if number.value < low || high < number.value {
+        return None;
     }
-    if high < value {
-        return Scanned::Nothing;
-    }
-    Scanned::Number { value, next }
+    Some(number)
 }
 
 // An arc's number, from -low to top and ended by a line feed, in 32 bits.
-pub(crate) fn arc_number(s: &[u8], at: usize, top: u64, low: u64) -> Scanned
+pub(crate) fn arc_number(s: &[u8], at: usize, top: u64, low: u64) -> Option<Scanned>
     requires { (top < 4294967296) × (low < 4294967296) }
     ensures { ArcNumberOf s.now at top low result }
 {
-    if s.len() <= at {
-        return Scanned::Nothing;
+    if *s.get(at)? != MINUS {
+        return bounded(s, at, LINE_END, 0, top);
     }
-    if s[at] == MINUS {
-        let Scanned::Number { value, next } = bounded(s, at + 1, 10, 1, low) else {
-            return Scanned::Nothing;
-        };
-        return Scanned::Number {
-            value: 4294967296 - value,
-            next,
-        };
-    }
-    bounded(s, at, 10, 0, top)
+    let Scanned { value, next } = bounded(s, at + 1, LINE_END, 1, low)?;
+    Some(Scanned {
+        value: 4294967296 - value,
+        next,
+    })
 }

@@ -1,9 +1,9 @@
 -- A chunk: up to 8,192 arcs of a text, copied into an array and found again by their nodes.
-use Rattle.std.specs.Prelude.{ℕ, ◌+◌, ◌-◌, ◌*◌, ◌/◌, ◌%◌, ◌≤◌, ◌<◌, ◌≡◌, Bool, true, false, ◌≢◌, List, length, drop}
+use Rattle.std.specs.Prelude.{ℕ, ◌+◌, ◌-◌, ◌*◌, ◌/◌, ◌%◌, ◌≤◌, ◌<◌, ◌≡◌, Bool, true, false, ◌≢◌, List, length, drop, Option, Some, None}
 use Rattle.arrays.specs.At.{at}
 use Rattle.roads.specs.Text.{Arc, Lines}
 use Rattle.arcs.specs.Arcs.{Arcs, arcs_of}
-use Rattle.arcs.specs.declared.chunk.Kind.{Kind}
+use Rattle.roads.specs.declared.line.Kind.{Kind}
 
 -- an arc's two nodes as one number, and its opposite's
 unfoldable pub arc_key : Arcs → ℕ → ℕ
@@ -47,12 +47,6 @@ pub record ArcsFrom (top low n : ℕ) (s : List ℕ) (at m : ℕ) (all : List Ar
 abbrev pub TailOf : Kind → List ℕ → ℕ → ℕ → List Arc → Type 0
 TailOf kind = ArcsFrom kind.top kind.low kind.nodes
 
--- a kind's nodes and numbers fit their fields
-pub record KindFits (kind : Kind) : Type 0 where
-  pub nodes_fit : kind.nodes < 65536
-  pub top_fits : kind.top < 4294967296
-  pub low_fits : kind.low < 4294967296
-
 -- the k arcs from start on stand in a chunk
 pub record ChunkOf (A : Arcs) (start k : ℕ) (chunk : List ℕ) : Type 0 where
   pub few : k ≤ 8192
@@ -80,6 +74,11 @@ pub record LastAt (q : ℕ → ℕ) (v k x : ℕ) : Type 0 where
   pub below : x ≤ k
   pub hit : 0 < x → q (x - 1) ≡ v
   pub none : (h : ℕ) → x ≤ h → h < k → q h ≢ v
+
+-- the place that a link leads to, if any
+abbrev pub link : Option ℕ → ℕ
+link None = 0
+link (Some h) = h + 1
 
 -- the places below k are chained by the buckets of their keys
 pub record Buckets (chunk : List ℕ) (k : ℕ) (first next : List ℕ) : Type 0 where

@@ -1,10 +1,11 @@
 -- Rows laid into a table, by two chunks that hold all arcs of the two texts.
-use Rattle.std.specs.Prelude.{ℕ, ◌+◌, ◌-◌, ◌/◌, ◌%◌, ◌≤◌, ◌<◌, ◌≡◌, ◌≢◌, List, length}
+use Rattle.std.specs.Prelude.{ℕ, ◌+◌, ◌-◌, ◌/◌, ◌%◌, ◌≤◌, ◌<◌, ◌≡◌, ◌≢◌, List, length, Ok, Err}
 use Rattle.std.proofs.lemmas.List.Edits.{sets}
 use Rattle.arrays.specs.At.{at}
 use Rattle.table.specs.Refuse.{Unless}
 use Rattle.arcs.specs.Arcs.{Arcs, Paired, SameBranches}
 use Rattle.arcs.specs.Made.{Earlier, Firsts, RowFields, BranchRows, rows_bytes}
+use Rattle.arcs.specs.work.Look.{Verdict}
 use Rattle.arcs.specs.work.Chunk.{arc_key, key_at, LastAt, WholeIn, Buckets}
 
 -- the fields of the row of an arc of a chunk, its weight being another's number
@@ -26,11 +27,12 @@ pub record RowsLaid (L M : Arcs) (j : ℕ) (old new : List ℕ) : Type 0 where
   pub each : BranchRows L M firsts rows
   pub is : new ≡ sets old 12 (rows_bytes rows)
 
--- 27 over both, 28, or 0 and the rows, where there is room for them
-abbrev pub RowsMade : Arcs → Arcs → List ℕ → List ℕ → ℕ → Type 0
+-- 27 over both, 28, or the rows, where there is room for them
+abbrev pub RowsMade : Arcs → Arcs → List ℕ → List ℕ → Verdict → Type 0
 RowsMade L M old new =
-    Unless ℕ 27 (Paired L × Paired M)
-    (Unless ℕ 28 (SameBranches L M) (λ k. (k ≡ 0) × (L.count ≤ 8190 → RowsLaid L M L.count old new)))
+    Unless Verdict (Err 27) (Paired L × Paired M)
+    (Unless Verdict (Err 28) (SameBranches L M)
+    (λ r. (r ≡ Ok tt) × (L.count ≤ 8190 → RowsLaid L M L.count old new)))
 
 -- of the arcs below j, the places of those that are their branch's first are marked
 pub record FirstsMarked (L : Arcs) (k : ℕ) (chunk : List ℕ) (j : ℕ) (seen : List ℕ) : Type 0 where

@@ -1,5 +1,5 @@
 -- One look through the arcs of B for the opposites of the arcs of A, chunk by chunk; numbers count where it is strict.
-use Rattle.std.specs.Prelude.{ℕ, ◌+◌, ◌<◌, ◌≡◌, Bool, true, false, ◌≢◌, List, length}
+use Rattle.std.specs.Prelude.{ℕ, ◌+◌, ◌<◌, ◌≡◌, Bool, true, false, ◌≢◌, List, length, Result, Ok, Err}
 use Rattle.arrays.specs.At.{at}
 use Rattle.table.specs.Refuse.{Unless}
 use Rattle.arcs.specs.Arcs.{Arcs, Paired, SameBranches}
@@ -48,11 +48,16 @@ pub record ArcsIn (strict : Bool) (B : Arcs) (k : ℕ) (chunk : List ℕ) (r : B
       → MatchedBelow strict A B (start + k)
   pub fault : r ≡ false → (A : Arcs) (start : ℕ) → ChunkOf A start k chunk → ¬ Matches strict A B
 
+-- what is refused, or nothing
+abbrev pub Verdict : Type 0
+Verdict = Result Unit ℕ
+
 -- the whole look
 pub record Looked (strict : Bool) (A B : Arcs) (r : Bool) : Type 0 where
   pub there : r ≡ true → MatchedBelow strict A B A.count
   pub fault : r ≡ false → ¬ Matches strict A B
 
--- 27 over both, 28, or 0
-abbrev pub Decided : Arcs → Arcs → ℕ → Type 0
-Decided L M = Unless ℕ 27 (Paired L × Paired M) (Unless ℕ 28 (SameBranches L M) (λ k. k ≡ 0))
+-- 27 over both, 28, or neither
+abbrev pub Decided : Arcs → Arcs → Verdict → Type 0
+Decided L M =
+    Unless Verdict (Err 27) (Paired L × Paired M) (Unless Verdict (Err 28) (SameBranches L M) (λ r. r ≡ Ok tt))

@@ -1,13 +1,12 @@
 -- `meets`: chunk after chunk of the one text, and for each of them the other text.
 use Prim.Native.Nat.{◌-◌, ◌≤◌}
 use Rattle.arcs.proofs.Streams.{Meeting}
-use Rattle.arcs.specs.work.Chunk.{KindFits}
 use Rattle.arcs.proofs.many.meets.Given as goal
 
 abbrev pub invariant-loop-start : goal.invariant-loop-start
 invariant-loop-start l =
-    (l.start ≤ l.m) × KindFits l.ka × KindFits l.kb × Meeting l.ka l.a l.ia l.kb l.b l.ib l.m l.strict l.start l.c
+    (l.start ≤ l.m)
+    × Meeting l.a.kind l.a.text.now l.a.at l.b.kind l.b.text.now l.b.at l.m l.strict l.start l.c
 
 abbrev pub decreases-loop-start : goal.decreases-loop-start
-decreases-loop-start l =
-    l.m - l.start
+decreases-loop-start l = l.m - l.start

@@ -3,16 +3,13 @@ use Prim.Native.Nat.{◌-◌, ◌≤◌}
 use mathlib.Core.Path.{◌≡◌}
 use lib.ListN.{length}
 use Rattle.arcs.proofs.Streams.{Streaming}
-use Rattle.arcs.specs.work.Chunk.{KindFits, Searchable}
 use Rattle.arcs.proofs.many.stream.Given as goal
 
 abbrev pub invariant-loop-start : goal.invariant-loop-start
 invariant-loop-start l =
     (l.start ≤ l.m)
-    × KindFits l.kind
-    × Searchable l.k l.chunk l.first l.next
     × (length l.seen ≡ 8192)
-    × Streaming l.kind l.b l.at l.m l.strict l.k l.chunk l.start l.c l.seen
+    × Streaming l.b.kind l.b.text.now l.b.at l.m l.strict l.chunk.count l.chunk.arcs l.start l.c l.seen
 
 abbrev pub decreases-loop-start : goal.decreases-loop-start
 decreases-loop-start l = l.m - l.start

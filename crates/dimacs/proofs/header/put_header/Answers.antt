@@ -17,4 +17,6 @@ returns c =
       put-bytes2-ensures,
       put-bytes-ensures,
       sets_put put-word-ensures,
+      c.from.ensures,
+      c.from-2.ensures,
     ) (header_sets _ _ _)

@@ -6,14 +6,8 @@ use Rattle.dimacs.proofs.Copied.{copied_given}
 use Rattle.dimacs.proofs.reading.give.Goals as goal
 
 pub returns-in-Refused : goal.returns-in-Refused
-returns-in-Refused c =
-    let accept-ensures = c.accept-o.ensures in
-    let args = c.args in
-    refused_on (read_refusal args.table.now) args.made.now _ (rw c.in-Refused.is at accept-ensures)
+returns-in-Refused c = refused_on (read_refusal c.args.table.now) c.args.made.now _ c.in-Refused.ensures
 
 pub returns-in-Accepted : goal.returns-in-Accepted
 returns-in-Accepted c =
-    let accept-ensures = c.accept-o.ensures in
-    let args = c.args in
-    passed_on (read_refusal args.table.now) args.made.now _ _ (rw c.in-Accepted.is at accept-ensures)
-    (copied_given c.put_word.ensures)
+    passed_on (read_refusal c.args.table.now) c.args.made.now _ _ c.in-Accepted.ensures (copied_given c.put_word.ensures)

@@ -1,21 +1,24 @@
+-- `after_word` compares what stands at the place with the word (proofs/Skipping).
 use native.Mathlib.Omega.{arith}
-use Rattle.roads.proofs.Skipping.{word_short, word_other, matching_none, matching_more, matching_done}
+use Rattle.std.proofs.lemmas.Bool.Decides.{Decides-eqb}
+use Rattle.std.proofs.lemmas.Slice.Eq.{starts_is}
+use Rattle.roads.proofs.Skipping.{word_past, word_found, word_other}
 use Rattle.roads.proofs.line.after_word.Goals as goal
 
-pub returns-then-s-at : goal.returns-then-s-at
-returns-then-s-at c = word_short _ (omega arith)
+pub returns-in_err-get : goal.returns-in_err-get
+returns-in_err-get c =
+    let past = c.in_err-get.ensures.lookup in
+    rw c.from_residual.ensures (word_past _ (omega arith) c.requires)
 
-pub returns-then-s-at-2 : goal.returns-then-s-at-2
-returns-then-s-at-2 c = word_short _ (omega arith)
+pub returns-then-starts_with : goal.returns-then-starts_with
+returns-then-starts_with c =
+    let rest = c.in_ok-get.ensures.lookup.0 in
+    let starts = starts_is Decides-eqb _ _ _ c.starts_with.ensures.value in
+    word_found _ _ rest.0 c.requires rest.2 (starts.0 c.if-starts_with.true)
 
-pub loop-i-init : goal.loop-i-init
-loop-i-init c = matching_none _ _ _ (omega arith) (omega arith)
-
-pub returns-then-s-at-3 : goal.returns-then-s-at-3
-returns-then-s-at-3 c = word_other _ {i = c.loop-i.i} (omega arith) (omega arith)
-
-pub loop-i-preserved : goal.loop-i-preserved
-loop-i-preserved c = matching_more c.loop-i.invariant (omega arith) (omega arith)
-
-pub returns : goal.returns
-returns c = matching_done c.loop-i.invariant (omega arith)
+pub returns-else-starts_with : goal.returns-else-starts_with
+returns-else-starts_with c =
+    let rest = c.in_ok-get.ensures.lookup.0 in
+    let starts = starts_is Decides-eqb _ _ _ c.starts_with.ensures.value in
+    let other = c.if-starts_with.false in
+    word_other _ _ rest.0 rest.2 (λ r e. absurd (let it = starts.1 r e in cc))

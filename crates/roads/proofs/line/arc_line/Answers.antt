@@ -5,55 +5,37 @@ use Rattle.roads.proofs.Reading.{arc_no_word, arc_no_from, arc_no_to, arc_no_num
 use Rattle.roads.proofs.Bounds.{bounded_high, number_small}
 use Rattle.roads.proofs.line.arc_line.Goals as goal
 
-pub returns-in_default : goal.returns-in_default
+pub returns-in_err-i : goal.returns-in_err-i
 unfolding word
-returns-in_default c = arc_no_word (rw c.in_default.is at c.after_word.ensures)
+returns-in_err-i c = rw c.from_residual.ensures (arc_no_word c.in_err-i.ensures)
 
-pub returns-in_default-bounded : goal.returns-in_default-bounded
+pub returns-in_err-from : goal.returns-in_err-from
 unfolding word
-returns-in_default-bounded c =
-    let after-word-ensures = c.after_word.ensures in
-    arc_no_from (rw c.in-At.is at after-word-ensures)
-    (rw c.in_default-bounded.is at c.bounded.ensures)
+returns-in_err-from c =
+    rw c.from_residual-in_err-from.ensures (arc_no_from c.in_ok-i.ensures (rw c.from-most.ensures at c.in_err-from.ensures))
 
-pub returns-in_default-bounded-2 : goal.returns-in_default-bounded-2
+pub returns-in_err-to : goal.returns-in_err-to
 unfolding word
-returns-in_default-bounded-2 c =
-    let bounded-ensures = c.bounded.ensures in
-    let after-word-ensures = c.after_word.ensures in
-    arc_no_to (rw c.in-At.is at after-word-ensures) (rw c.in-Number.is at bounded-ensures)
-    (rw c.in_default-bounded-2.is at c.bounded-2.ensures)
+returns-in_err-to c =
+    rw c.from_residual-in_err-to.ensures
+    (arc_no_to c.in_ok-i.ensures (rw c.from-most.ensures at c.in_ok-from.ensures) (rw c.from-most.ensures at c.in_err-to.ensures))
 
-pub returns-in_default-arc_number : goal.returns-in_default-arc_number
+pub returns-in_err-number : goal.returns-in_err-number
 unfolding word
-returns-in_default-arc_number c =
-    let bounded2-ensures = c.bounded-2.ensures in
-    let bounded-ensures = c.bounded.ensures in
-    let after-word-ensures = c.after_word.ensures in
-    arc_no_number (rw c.in-At.is at after-word-ensures) (rw c.in-Number.is at bounded-ensures)
-    (rw c.in-Number-bounded.is at bounded2-ensures) (rw c.in_default-arc_number.is at c.arc_number.ensures)
+returns-in_err-number c =
+    rw c.from_residual-in_err-number.ensures
+    (arc_no_number c.in_ok-i.ensures (rw c.from-most.ensures at c.in_ok-from.ensures) (rw c.from-most.ensures at c.in_ok-to.ensures) c.in_err-number.ensures)
 
 pub overflow_cast-result : goal.overflow_cast-result
-overflow_cast-result c =
-    let bounded-ensures = c.bounded.ensures in
-    omega (arith, bounded_high (rw c.in-Number.is at bounded-ensures))
+overflow_cast-result c = omega (arith, bounded_high c.in_ok-from.ensures)
 
 pub overflow_cast-result-2 : goal.overflow_cast-result-2
-overflow_cast-result-2 c =
-    let bounded2-ensures = c.bounded-2.ensures in
-    omega (arith, bounded_high (rw c.in-Number-bounded.is at bounded2-ensures))
+overflow_cast-result-2 c = omega (arith, bounded_high c.in_ok-to.ensures)
 
 pub overflow_cast-result-3 : goal.overflow_cast-result-3
-overflow_cast-result-3 c =
-    let arc-number-ensures = c.arc_number.ensures in
-    omega (arith, number_small (rw c.in-Number-arc_number.is at arc-number-ensures))
+overflow_cast-result-3 c = omega (arith, number_small c.in_ok-number.ensures)
 
 pub returns : goal.returns
 unfolding word
 returns c =
-    let arc-number-ensures = c.arc_number.ensures in
-    let bounded2-ensures = c.bounded-2.ensures in
-    let bounded-ensures = c.bounded.ensures in
-    let after-word-ensures = c.after_word.ensures in
-    arc_found (rw c.in-At.is at after-word-ensures) (rw c.in-Number.is at bounded-ensures)
-    (rw c.in-Number-bounded.is at bounded2-ensures) (rw c.in-Number-arc_number.is at arc-number-ensures)
+    arc_found c.in_ok-i.ensures (rw c.from-most.ensures at c.in_ok-from.ensures) (rw c.from-most.ensures at c.in_ok-to.ensures) c.in_ok-number.ensures

@@ -17,14 +17,14 @@ pub loop-i-smaller : goal.loop-i-smaller
 loop-i-smaller c =
     let line-end-ensures = c.line_end.ensures in
     let loop-inv = c.loop-i.invariant in
-    let h = passing_more loop-inv (omega arith) (omega arith) (rw c.in-At.is at line-end-ensures) in
+    let h = passing_more loop-inv (omega arith) (omega arith) (rw c.in-Some.is at line-end-ensures) in
     omega (arith, h.1.on)
 
 pub loop-i-preserved : goal.loop-i-preserved
 loop-i-preserved c =
     let line-end-ensures = c.line_end.ensures in
     let loop-inv = c.loop-i.invariant in
-    (passing_more loop-inv (omega arith) (omega arith) (rw c.in-At.is at line-end-ensures)).0
+    (passing_more loop-inv (omega arith) (omega arith) (rw c.in-Some.is at line-end-ensures)).0
 
 pub returns : goal.returns
 returns c = passing_out c.loop-i.invariant (omega arith)

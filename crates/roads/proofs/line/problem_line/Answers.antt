@@ -5,35 +5,24 @@ use Rattle.roads.proofs.Reading.{problem_no_word, problem_no_nodes, problem_no_c
 use Rattle.roads.proofs.Bounds.{bounded_high}
 use Rattle.roads.proofs.line.problem_line.Goals as goal
 
-pub returns-in_default : goal.returns-in_default
+pub returns-in_err-i : goal.returns-in_err-i
 unfolding word
-returns-in_default c = problem_no_word (rw c.in_default.is at c.after_word.ensures)
+returns-in_err-i c = rw c.from_residual.ensures (problem_no_word c.in_err-i.ensures)
 
-pub returns-in_default-bounded : goal.returns-in_default-bounded
+pub returns-in_err-nodes : goal.returns-in_err-nodes
 unfolding word
-returns-in_default-bounded c =
-    let after-word-ensures = c.after_word.ensures in
-    problem_no_nodes (rw c.in-At.is at after-word-ensures)
-    (rw c.in_default-bounded.is at c.bounded.ensures)
+returns-in_err-nodes c =
+    rw c.from_residual-in_err-nodes.ensures (problem_no_nodes c.in_ok-i.ensures c.in_err-nodes.ensures)
 
-pub returns-in_default-field : goal.returns-in_default-field
+pub returns-in_err-count : goal.returns-in_err-count
 unfolding word
-returns-in_default-field c =
-    let bounded-ensures = c.bounded.ensures in
-    let after-word-ensures = c.after_word.ensures in
-    problem_no_count (rw c.in-At.is at after-word-ensures) (rw c.in-Number.is at bounded-ensures)
-    (rw c.in_default-field.is at c.field.ensures)
+returns-in_err-count c =
+    rw c.from_residual-in_err-count.ensures
+    (problem_no_count c.in_ok-i.ensures c.in_ok-nodes.ensures c.in_err-count.ensures)
 
 pub overflow_cast-result : goal.overflow_cast-result
-overflow_cast-result c =
-    let bounded-ensures = c.bounded.ensures in
-    omega (arith, bounded_high (rw c.in-Number.is at bounded-ensures))
+overflow_cast-result c = omega (arith, bounded_high c.in_ok-nodes.ensures)
 
 pub returns : goal.returns
 unfolding word
-returns c =
-    let field-ensures = c.field.ensures in
-    let bounded-ensures = c.bounded.ensures in
-    let after-word-ensures = c.after_word.ensures in
-    problem_found (rw c.in-At.is at after-word-ensures) (rw c.in-Number.is at bounded-ensures)
-    (rw c.in-Number-field.is at field-ensures)
+returns c = problem_found c.in_ok-i.ensures c.in_ok-nodes.ensures c.in_ok-count.ensures

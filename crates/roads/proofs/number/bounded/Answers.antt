@@ -3,21 +3,12 @@ use native.Mathlib.Omega.{arith}
 use Rattle.roads.proofs.Bounds.{no_field, in_bounds, out_of_bounds}
 use Rattle.roads.proofs.number.bounded.Goals as goal
 
-pub returns-in_default : goal.returns-in_default
-returns-in_default c = no_field (rw c.in_default.is at c.field.ensures)
+pub returns-in_err-number : goal.returns-in_err-number
+returns-in_err-number c = rw c.from_residual.ensures (no_field c.in_err-number.ensures)
 
-pub returns-then-value-low : goal.returns-then-value-low
-returns-then-value-low c =
-    let field-ensures = c.field.ensures in
-    out_of_bounds (omega arith) (omega arith) (rw c.in-Number.is at field-ensures)
-    (λ lo hi. omega arith)
-
-pub returns-then-high-value : goal.returns-then-high-value
-returns-then-high-value c =
-    let field-ensures = c.field.ensures in
-    out_of_bounds (omega arith) (omega arith) (rw c.in-Number.is at field-ensures) (λ lo hi. omega arith)
+pub returns-then-number-low : goal.returns-then-number-low
+returns-then-number-low c =
+    out_of_bounds (omega arith) (omega arith) c.in_ok-number.ensures (λ lo hi. omega arith)
 
 pub returns : goal.returns
-returns c =
-    let field-ensures = c.field.ensures in
-    in_bounds (omega arith) (rw c.in-Number.is at field-ensures) (omega arith) (omega arith)
+returns c = in_bounds (omega arith) c.in_ok-number.ensures (omega arith) (omega arith)

@@ -3,4 +3,4 @@ use Rattle.roads.proofs.Stepping.{step_read}
 use Rattle.roads.proofs.whole.next_arc.Goals as goal
 
 pub returns : goal.returns
-returns c = step_read c.past_comments-i.ensures c.arc_line.ensures
+returns c = step_read c.past_comments.ensures c.arc_line.ensures

@@ -2,22 +2,14 @@
 use Rattle.roads.proofs.Surveying.{survey_headless, survey_broken, survey_whole}
 use Rattle.roads.proofs.whole.survey_of.Goals as goal
 
-pub returns-in_default : goal.returns-in_default
-returns-in_default c =
-    let past-comments-ensures = c.past_comments-i.ensures in
-    survey_headless past-comments-ensures (rw c.in_default.is at c.problem_line.ensures)
+pub returns-in_err-problem : goal.returns-in_err-problem
+returns-in_err-problem c =
+    rw c.from_residual.ensures (survey_headless c.past_comments.ensures c.in_err-problem.ensures)
 
-pub returns-in_default-count_arcs : goal.returns-in_default-count_arcs
-returns-in_default-count_arcs c =
-    let problem-line-ensures = c.problem_line.ensures in
-    let past-comments-ensures = c.past_comments-i.ensures in
-    survey_broken past-comments-ensures (rw c.in-Counts.is at problem-line-ensures)
-    (rw c.in_default-count_arcs.is at c.count_arcs.ensures)
+pub returns-in_err-arcs : goal.returns-in_err-arcs
+returns-in_err-arcs c =
+    rw c.from_residual-in_err-arcs.ensures
+    (survey_broken c.past_comments.ensures c.in_ok-problem.ensures c.in_err-arcs.ensures)
 
 pub returns : goal.returns
-returns c =
-    let count-arcs-ensures = c.count_arcs.ensures in
-    let problem-line-ensures = c.problem_line.ensures in
-    let past-comments-ensures = c.past_comments-i.ensures in
-    survey_whole past-comments-ensures (rw c.in-Counts.is at problem-line-ensures)
-    (rw c.in-Arcs.is at count-arcs-ensures)
+returns c = survey_whole c.past_comments.ensures c.in_ok-problem.ensures c.in_ok-arcs.ensures

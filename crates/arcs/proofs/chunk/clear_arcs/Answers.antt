@@ -1,6 +1,0 @@
--- `clear_arcs` fills with 0.
-use Rattle.arrays.proofs.Fills.{filled}
-use Rattle.arcs.proofs.chunk.clear_arcs.Goals as goal
-
-pub returns : goal.returns
-returns c = filled _ _
