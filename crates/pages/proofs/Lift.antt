@@ -1,6 +1,6 @@
 -- The lift: x stands for x − 2^33. What the floor's lift is, where the lifts up to a ceiling end, which lifts pass by
 -- the two, and the 64 bits of what x stands for.
-use Prim.Native.Nat.{ℕ, suc, ◌+◌, ◌-◌, ◌≤◌, ◌<◌}
+use Prim.Native.Nat.{ℕ, suc, ◌+◌, ◌-◌, ◌%◌, ◌<◌}
 use mathlib.Core.Path.{◌≡◌}
 use native.Mathlib.Omega.{arith}
 use native.Mathlib.Decide.{dec_lt}
@@ -38,19 +38,12 @@ raised_is (negsuc n) = pick (dec_lt n 8589934592)
         let below : Diff 0 (suc n) (negsuc n) = down n (omega arith) in
         record { enough = λ x w e k. order_back below e (omega arith); needed = λ x w e k. omega arith }
 
-pub bits_low : (x : ℕ) → x < 8589934592 → x + 18446744065119617024 ≡ of_z w64 (lower x)
-bits_low x h = at (lower x) (lower_is x)
+pub bits_of : (x : ℕ) → x < 17179869184 → (x + 18446744065119617024) % 18446744073709551616 ≡ of_z w64 (lower x)
+bits_of x h = at (lower x) (lower_is x)
   where
-    at : (z : ℤ) → Diff x 8589934592 z → x + 18446744065119617024 ≡ of_z w64 z
-    at z (up n e) = absurd (omega arith)
-    at z (down n e) = omega arith
-
-pub bits_high : (x : ℕ) → 8589934592 ≤ x → x - 8589934592 ≡ of_z w64 (lower x)
-bits_high x h = at (lower x) (lower_is x)
-  where
-    at : (z : ℤ) → Diff x 8589934592 z → x - 8589934592 ≡ of_z w64 z
+    at : (z : ℤ) → Diff x 8589934592 z → (x + 18446744065119617024) % 18446744073709551616 ≡ of_z w64 z
     at z (up n e) = omega arith
-    at z (down n e) = absurd (omega arith)
+    at z (down n e) = omega arith
 
 -- the ceiling's own lift is the last that passes
 pub capped_after : {z : ℤ} {r : ℕ} → Diff r 8589934592 z → Capped z (r + 1)

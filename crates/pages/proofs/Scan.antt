@@ -4,13 +4,13 @@ use mathlib.Core.Path.{◌≡◌, refl, ap, ◌∙◌}
 use mathlib.Core.Logic.{◌⊎◌, inl, inr}
 use mathlib.Core.List.{List}
 use native.Mathlib.Omega.{arith}
-use native.Mathlib.Decide.{dec_lt, ℕ_discrete}
+use native.Mathlib.Decide.{ℕ_discrete}
 use Rattle.arrays.specs.At.{at}
 use Rattle.table.proofs.Lift.{diff_only}
 use Rattle.pages.specs.Listing.{Entry, entry, second}
 use Rattle.pages.specs.work.Lowered.{lower, InSums}
 use Rattle.pages.specs.declared.Sums.{Sums}
-use Rattle.pages.specs.work.Filling.{Starts, Added, GrownBy, Here, Seconds}
+use Rattle.pages.specs.work.Filling.{Added, GrownBy, Here, Seconds}
 use Rattle.pages.proofs.Lift.{lower_is}
 use Rattle.pages.proofs.Filling.{grown_none, grown_iff, grown_end}
 
@@ -105,24 +105,3 @@ module _ {Within : ℕ → Type 0} {key len wt : List ℕ} {u from : ℕ} {sums 
             grown = here_skip v a.grown (λ p q. no_way (rw (← ez) at p, rw (← ey) at q));
             few = omega (arith, a.few);
           }
-
--- one more than x, at most n: the second node to begin with, where x is the last that makes no pair after the start
-pub starts_next : {s t u n r : ℕ} (x : ℕ) → (x < n → r ≡ x + 1) × (n ≤ x → r ≡ n) → u ≤ x → (u ≡ s → t ≤ x)
-    → ((v : ℕ) → u < v → (u ≡ s → t < v) → x < v) → Starts s t u n r
-starts_next {s} {t} {u} {n} {r} x h up since last = pick (dec_lt x n)
-  where
-    pick : Dec (x < n) → Starts s t u n r
-    pick (yes b) =
-        let e = h.0 b in
-        record {
-          within = omega arith;
-          after = λ v c d. (omega arith, λ q. omega (arith, since q));
-          before = λ v c d q. omega (arith, last v d q);
-        }
-    pick (no b) =
-        let e = h.1 (omega arith) in
-        record {
-          within = omega arith;
-          after = λ v c d. absurd (omega arith);
-          before = λ v c d q. absurd (omega (arith, last v d q));
-        }

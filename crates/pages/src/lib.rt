@@ -41,11 +41,7 @@ pub fn bits(x: u64) -> u64
     requires { x < 17179869184 }
     ensures { result ≡ of_z w64 (lower x) }
 {
-    if x < SUM_LIFT {
-        x + 18446744065119617024
-    } else {
-        x - SUM_LIFT
-    }
+    x.wrapping_sub(SUM_LIFT)
 }
 
 // One row: the pair a, b with length l and lifted weight x.
@@ -70,16 +66,15 @@ fn add(out: &mut [u8], room: usize, a: usize, b: usize, l: u64, x: u64, c: Count
         result.left }
 {
     if c.given < room {
-        let g = c.given;
-        put_row(out, 16 * g, a, b, l, x);
+        put_row(out, 16 * c.given, a, b, l, x);
         return Count {
-            given: g + 1,
-            left: c.left,
+            given: c.given + 1,
+            ..c
         };
     }
     Count {
-        given: c.given,
         left: c.left + 1,
+        ..c
     }
 }
 
@@ -87,35 +82,21 @@ fn add(out: &mut [u8], room: usize, a: usize, b: usize, l: u64, x: u64, c: Count
 pub fn passes(y: u64, x: u64, limit: Limit, sums: Sums) -> bool
     ensures { Decides (Fits limit y × InSums sums x) result }
 {
-    if x < sums.floor {
-        return false;
-    }
-    if sums.end <= x {
-        return false;
-    }
-    fits(limit, y)
+    sums.floor <= x && x < sums.end && fits(limit, y)
 }
 
 // One more than x, and n where that is above n.
 fn next(x: usize, n: usize) -> usize
     ensures { (x < n → result ≡ x + 1) × (n ≤ x → result ≡ n) }
 {
-    if x < n {
-        return x + 1;
-    }
-    n
+    if x < n { x + 1 } else { n }
 }
 
 // The second node of u to begin with, for the start s, t: nothing before it makes a pair after the start.
 pub fn first_second(s: usize, t: usize, u: usize, n: usize) -> usize
     ensures { Starts s t u n result }
 {
-    if u == s {
-        if u < t {
-            return next(t, n);
-        }
-    }
-    next(u, n)
+    next(if u == s && u < t { t } else { u }, n)
 }
 
 // The second nodes of u in turn, from `from` on: each that passes goes into the page, or is counted.
@@ -137,15 +118,10 @@ pub fn seconds(
         out.old c.given c.left out.new result.given result.left }
 {
     let mut k = c;
-    let mut v = from;
-    while v < n {
-        let y = key[v];
-        let x = wt[v];
-        if passes(y, x, limit, sums) {
-            let l = len[v];
-            k = add(out, room, u, v, l, x, k);
+    for v in from..n {
+        if passes(key[v], wt[v], limit, sums) {
+            k = add(out, room, u, v, len[v], wt[v], k);
         }
-        v += 1;
     }
     k
 }

@@ -1,4 +1,4 @@
-use mathlib.Core.Path.{◌≡◌, refl}
+use mathlib.Core.Path.{refl}
 use native.Mathlib.Omega.{arith}
 use Rattle.pages.proofs.Scan.{seconds_none, seconds_add, seconds_skip}
 use Rattle.pages.proofs.seconds.Goals.{then-passes, else-passes}
@@ -6,16 +6,6 @@ use Rattle.pages.proofs.seconds.Goals as goal
 
 pub loop-v-init : goal.loop-v-init
 loop-v-init c = (seconds_none, c.requires, omega arith, omega arith)
-
-pub add-k-requires : goal.add-k-requires
-add-k-requires c =
-    let loop-test-taken = c.loop-v-test.true in
-    let h = c.loop-v.invariant in (
-      omega (arith, h.0.grown.same),
-      omega (arith, h.0.grown.same),
-      h.1.light _ loop-test-taken,
-      omega (arith, h.0.few),
-    )
 
 pub loop-v-preserved : goal.loop-v-preserved
 loop-v-preserved c =
@@ -32,13 +22,3 @@ loop-v-preserved c =
       omega arith,
       omega arith,
     )
-
-pub shape_of-out : goal.shape_of-out
-shape_of-out c = c.loop-v.invariant.0.grown.same
-
-pub returns : goal.returns
-returns c =
-    let args = c.args in
-    let h = c.loop-v.invariant in
-    let e : c.loop-v.v ≡ args.n = omega arith in
-    rw e at h.0

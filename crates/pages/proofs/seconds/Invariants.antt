@@ -1,6 +1,6 @@
 -- `pages::seconds` takes the second nodes in turn. The invariant: what was found among those below v has gone into the
 -- page, and no more was left over than nodes were passed.
-use Prim.Native.Nat.{◌-◌, ◌≤◌}
+use Prim.Native.Nat.{◌≤◌}
 use Rattle.limits.specs.work.Fits.{Fits}
 use Rattle.pages.specs.work.Filling.{SecondsReady, Seconds}
 use Rattle.pages.proofs.seconds.Given as goal
@@ -12,6 +12,3 @@ invariant-loop-v l =
     × SecondsReady l.initial.out l.room l.wt l.u l.from l.n l.initial.k.left
     × (l.from ≤ l.v)
     × (l.v ≤ l.n)
-
-abbrev pub decreases-loop-v : goal.decreases-loop-v
-decreases-loop-v l = l.n - l.v
