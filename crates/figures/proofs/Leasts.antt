@@ -1,5 +1,5 @@
 -- The least over a span of places: of two spans side by side, of one place more in each table, and by the tables.
-use Prim.Native.Nat.{ℕ, zero, suc, ◌+◌, ◌-◌, ◌*◌, ◌/◌, ◌%◌, ◌≤◌, ◌<◌}
+use Prim.Native.Nat.{ℕ, zero, suc, ◌+◌, ◌-◌, ◌*◌, ◌/◌, ◌%◌, ◌≤◌, ◌<◌, min}
 use mathlib.Core.Path.{◌≡◌, refl, sym, ap, ◌∙◌}
 use mathlib.Core.Logic.{◌≢◌}
 use mathlib.Core.List.{List}
@@ -9,7 +9,7 @@ use lib.ListN.{length, set, length-set}
 use lib.Seq.{get_or-set_same, get_or-set_other}
 use Rattle.arrays.specs.At.{at}
 use Rattle.layout.specs.work.Spotted.{LeastOf}
-use Rattle.figures.specs.work.Bins.{LeastOrNone, Lesser, Tails, Fronts, Gaps, TailTurn, FrontTurn, GapTurn}
+use Rattle.figures.specs.work.Bins.{LeastOrNone, Tails, Fronts, Gaps, TailTurn, FrontTurn, GapTurn}
 use Rattle.figures.specs.work.Bins.{LeastAsked}
 
 pub least_none : {f : ℕ → ℕ} {a b : ℕ} → b ≤ a → LeastOrNone f a b 65535
@@ -21,30 +21,23 @@ least_one f k = record { all = λ j l m. same j l m; some = λ l. (k, omega arit
     same : (j : ℕ) → k ≤ j → j < k + 1 → f k ≤ f j
     same j l m = let e : j ≡ k = omega arith in omega (arith, ap f e)
 
-lesser_low : {x y r : ℕ} → Lesser x y r → (r ≤ x) × (r ≤ y)
-lesser_low {x} {y} {r} l = pick (dec_lt x y)
-  where
-    pick : Dec (x < y) → (r ≤ x) × (r ≤ y)
-    pick (yes h) = (omega (arith, l.left h), omega (arith, l.left h))
-    pick (no h) = let e = l.right (omega arith) in (omega (arith, e), omega (arith, e))
-
 -- two spans side by side
-least_join : {f : ℕ → ℕ} {a b c x y r : ℕ} → a ≤ b → b ≤ c → LeastOrNone f a b x → LeastOrNone f b c y → Lesser x y r
+least_join : {f : ℕ → ℕ} {a b c x y r : ℕ} → a ≤ b → b ≤ c → LeastOrNone f a b x → LeastOrNone f b c y → r ≡ min x y
     → LeastOrNone f a c r
 least_join {f} {a} {b} {c} {x} {y} {r} ab bc p q l =
     record { all = λ k i j. low k i j (dec_lt k b); some = λ s. from s (dec_lt x y) }
   where
     low : (k : ℕ) → a ≤ k → k < c → Dec (k < b) → r ≤ f k
-    low k i j (yes m) = omega (arith, (lesser_low l).0, p.all k i m)
-    low k i j (no m) = omega (arith, (lesser_low l).1, q.all k (omega arith) j)
+    low k i j (yes m) = omega (arith, l, p.all k i m)
+    low k i j (no m) = omega (arith, l, q.all k (omega arith) j)
 
     from : r < 65535 → Dec (x < y) → (k : ℕ) × (a ≤ k) × (k < c) × (f k ≡ r)
     from s (yes h) =
-        let e = l.left h in
+        let e : r ≡ x = omega arith in
         let t = p.some (omega (arith, e)) in
         (t.0, t.1, omega (arith, t.2), t.3 ∙ sym e)
     from s (no h) =
-        let e = l.right (omega arith) in
+        let e : r ≡ y = omega arith in
         let t = q.some (omega (arith, e)) in
         (t.0, omega (arith, t.1), t.2, t.3 ∙ sym e)
 
@@ -111,7 +104,7 @@ module _ {above : List ℕ} where
 
   -- one place more
   tail_step : {tail : List ℕ} {i x r : ℕ} → i < 4096 → Tails above (i + 1) tail → TailTurn tail i x
-      → Lesser (at above i) x r → Tails above i (set tail i r)
+      → r ≡ min (at above i) x → Tails above i (set tail i r)
   tail_step {tail} {i} {x} {r} h t w l =
       record { long = length-set tail i r ∙ t.long; each = λ k a b. pick k a b (ℕ_discrete k i) }
     where
@@ -129,11 +122,11 @@ module _ {above : List ℕ} where
 
   -- as the loop, which counts down, has it
   pub tail_down : {tail : List ℕ} {i x r : ℕ} → 0 < i → i ≤ 4096 → Tails above i tail → TailTurn tail (i - 1) x
-      → Lesser (at above (i - 1)) x r → Tails above (i - 1) (set tail (i - 1) r)
+      → r ≡ min (at above (i - 1)) x → Tails above (i - 1) (set tail (i - 1) r)
   tail_down {tail} {i} z h t w l = let e : (i - 1) + 1 ≡ i = omega arith in tail_step (omega arith) (rw e t) w l
 
   pub front_step : {front : List ℕ} {i x r : ℕ} → i < 4096 → Fronts above i front → FrontTurn front i x
-      → Lesser x (at above i) r → Fronts above (i + 1) (set front i r)
+      → r ≡ min x (at above i) → Fronts above (i + 1) (set front i r)
   front_step {front} {i} {x} {r} h t w l =
       record { long = length-set front i r ∙ t.long; each = λ k b. pick k b (ℕ_discrete k i) }
     where
@@ -169,12 +162,9 @@ module _ {above : List ℕ} where
       pick k b (no n) = rw (get_or-set_other gap i k x 0 n) (t.each k (omega arith))
 
 -- place by place
-pub scan_step : (above : List ℕ) {a k m r : ℕ} → a ≤ k → LeastOrNone (at above) a k m → Lesser m (at above k) r
+pub scan_step : (above : List ℕ) {a k m r : ℕ} → a ≤ k → LeastOrNone (at above) a k m → r ≡ min m (at above k)
     → LeastOrNone (at above) a (k + 1) r
 scan_step above {a} {k} h p l = least_join h (omega arith) p (least_one (at above) k) l
-
-pub scan_end : {f : ℕ → ℕ} {a b k m : ℕ} → k ≤ b + 1 → b < k → LeastOrNone f a k m → LeastOrNone f a (b + 1) m
-scan_end {b = b} {k = k} h l p = let e : k ≡ b + 1 = omega arith in rw e at p
 
 -- the search, in one bin and over several
 module _ {above tail front gap : List ℕ} {i j : ℕ} (S : LeastAsked above tail front gap i j) where
@@ -185,7 +175,7 @@ module _ {above tail front gap : List ℕ} {i j : ℕ} (S : LeastAsked above tai
   search_near e p = rw e (near p)
 
   pub search_far : {x s r : ℕ} → r ≡ s → (i + 1) / 64 ≢ j / 64
-      → Lesser (at tail (i + 1)) (at gap (64 * ((i + 1) / 64) + j / 64)) x → Lesser x (at front j) s
+      → x ≡ min (at tail (i + 1)) (at gap (64 * ((i + 1) / 64) + j / 64)) → s ≡ min x (at front j)
       → LeastOf (at above) (i + 1) j r
   search_far {x} {s} {r} e n l m =
       let o = S.order in

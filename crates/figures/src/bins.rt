@@ -1,30 +1,18 @@
 // Three tables over bins of 64 places, from which the least number from one place to another comes in three reads.
 ghost use Rattle.std.specs.Prelude.{ℕ, ◌<◌, List};
-ghost use Rattle.figures.specs.work.Bins.{Lesser, Tails, Fronts, Gaps, TailTurn, FrontTurn, GapTurn};
+ghost use Rattle.figures.specs.work.Bins.{Tails, Fronts, Gaps, TailTurn, FrontTurn, GapTurn};
 
 use arrays::fill;
 
-// More than every spot: stands for no place.
-pub(crate) const NONE: u16 = 65535;
-
-pub(crate) fn lesser(x: u16, y: u16) -> u16
-    ensures { Lesser x y result }
-{
-    if x < y {
-        return x;
-    }
-    y
-}
+// More than every spot: the least of no places, so that the lesser of two takes no test of whether there are any.
+pub(crate) const NONE: u16 = u16::MAX;
 
 // The least of the places behind i in its bin.
 fn tail_behind(tail: &[u16; 4096], i: usize) -> u16
     requires { i < 4096 }
     ensures { TailTurn tail.now i result }
 {
-    if i % 64 == 63 {
-        return NONE;
-    }
-    tail[i + 1]
+    if i % 64 == 63 { NONE } else { tail[i + 1] }
 }
 
 // From each place to the end of its bin.
@@ -32,11 +20,8 @@ pub(crate) fn tails(above: &[u16; 4096], tail: &mut [u16; 4096])
     ensures { Tails above.now 0 tail.new }
 {
     fill(tail, 0);
-    let mut i: usize = 4096;
-    while i > 0 {
-        i -= 1;
-        let x = tail_behind(tail, i);
-        tail[i] = lesser(above[i], x);
+    for i in (0..4096).rev() {
+        tail[i] = above[i].min(tail_behind(tail, i));
     }
 }
 
@@ -45,10 +30,7 @@ fn front_before(front: &[u16; 4096], i: usize) -> u16
     requires { i < 4096 }
     ensures { FrontTurn front.now i result }
 {
-    if i % 64 == 0 {
-        return NONE;
-    }
-    front[i - 1]
+    if i % 64 == 0 { NONE } else { front[i - 1] }
 }
 
 // From the begin of its bin to each place.
@@ -56,11 +38,8 @@ pub(crate) fn fronts(above: &[u16; 4096], front: &mut [u16; 4096])
     ensures { Fronts above.now 4096 front.new }
 {
     fill(front, 0);
-    let mut i: usize = 0;
-    while i < 4096 {
-        let x = front_before(front, i);
-        front[i] = lesser(x, above[i]);
-        i += 1;
+    for i in 0..4096 {
+        front[i] = front_before(front, i).min(above[i]);
     }
 }
 
@@ -72,7 +51,7 @@ fn gap_between(gap: &[u16; 4096], tail: &[u16; 4096], i: usize) -> u16
     if i % 64 <= i / 64 + 1 {
         return NONE;
     }
-    lesser(gap[i - 1], tail[64 * (i % 64 - 1)])
+    gap[i - 1].min(tail[64 * (i % 64 - 1)])
 }
 
 // Of the bins between any two: that of bins a and b stands at 64 a + b.
@@ -80,10 +59,7 @@ pub(crate) fn gaps(tail: &[u16; 4096], gap: &mut [u16; 4096])
     ensures { (above : List ℕ) → Tails above 0 tail.now → Gaps above 4096 gap.new }
 {
     fill(gap, 0);
-    let mut i: usize = 0;
-    while i < 4096 {
-        let x = gap_between(gap, tail, i);
-        gap[i] = x;
-        i += 1;
+    for i in 0..4096 {
+        gap[i] = gap_between(gap, tail, i);
     }
 }

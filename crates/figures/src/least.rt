@@ -4,19 +4,17 @@ ghost use Rattle.arrays.specs.At.{at};
 ghost use Rattle.layout.specs.work.Spotted.{LeastOf};
 ghost use Rattle.figures.specs.work.Bins.{LeastOrNone, LeastAsked};
 
-use crate::bins::{NONE, lesser};
+use crate::bins::NONE;
 use arrays::wide;
 
 // In one bin, place by place.
-fn scan(above: &[u16; 4096], a: usize, b: usize) -> u16
-    requires { (a ≤ b) × (b < 4096) }
-    ensures { LeastOrNone (at above.now) a (b + 1) result }
+fn scan(above: &[u16; 4096], begin: usize, end: usize) -> u16
+    requires { (begin ≤ end) × (end ≤ 4096) }
+    ensures { LeastOrNone (at above.now) begin end result }
 {
-    let mut m: u16 = NONE;
-    let mut k = a;
-    while k <= b {
-        m = lesser(m, above[k]);
-        k += 1;
+    let mut m = NONE;
+    for k in begin..end {
+        m = m.min(above[k]);
     }
     m
 }
@@ -36,8 +34,7 @@ pub(crate) fn least(
     let a = (i + 1) / 64;
     let b = j / 64;
     if a == b {
-        return wide(scan(above, i + 1, j));
+        return wide(scan(above, i + 1, j + 1));
     }
-    let x = lesser(tail[i + 1], gap[64 * a + b]);
-    wide(lesser(x, front[j]))
+    wide(tail[i + 1].min(gap[64 * a + b]).min(front[j]))
 }

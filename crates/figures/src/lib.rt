@@ -52,8 +52,5 @@ pub fn figure(
 {
     let x = wide(spot[a]);
     let y = wide(spot[b]);
-    if x < y {
-        return across(above, tail, front, gap, far, heavy, x, y);
-    }
-    across(above, tail, front, gap, far, heavy, y, x)
+    across(above, tail, front, gap, far, heavy, x.min(y), x.max(y))
 }

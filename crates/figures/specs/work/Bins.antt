@@ -1,17 +1,12 @@
 -- The least number from one place of a list to another, from three tables over bins of 64 places. A number in a table
 -- is 65535 where it stands for no place.
-use Rattle.std.specs.Prelude.{ℕ, ◌+◌, ◌-◌, ◌*◌, ◌/◌, ◌%◌, ◌≤◌, ◌<◌, ◌≡◌, ◌≢◌, List, length}
+use Rattle.std.specs.Prelude.{ℕ, ◌+◌, ◌-◌, ◌*◌, ◌/◌, ◌%◌, ◌≤◌, ◌<◌, min, ◌≡◌, ◌≢◌, List, length}
 use Rattle.arrays.specs.At.{at}
 
 -- m is the least f of the numbers from a to below b, or 65535 where none of them has less
 pub record LeastOrNone (f : ℕ → ℕ) (a b m : ℕ) : Type 0 where
   pub all : (k : ℕ) → a ≤ k → k < b → m ≤ f k
   pub some : m < 65535 → (k : ℕ) × (a ≤ k) × (k < b) × (f k ≡ m)
-
--- r is the lesser of x and y
-pub record Lesser (x y r : ℕ) : Type 0 where
-  pub left : x < y → r ≡ x
-  pub right : y ≤ x → r ≡ y
 
 -- of each place from i on, the least from there to its bin's end
 pub record Tails (above : List ℕ) (i : ℕ) (tail : List ℕ) : Type 0 where
@@ -45,7 +40,7 @@ pub record FrontTurn (front : List ℕ) (i r : ℕ) : Type 0 where
 
 pub record GapTurn (gap tail : List ℕ) (i r : ℕ) : Type 0 where
   pub near : i % 64 ≤ i / 64 + 1 → r ≡ 65535
-  pub far : i / 64 + 1 < i % 64 → Lesser (at gap (i - 1)) (at tail (64 * (i % 64 - 1))) r
+  pub far : i / 64 + 1 < i % 64 → r ≡ min (at gap (i - 1)) (at tail (64 * (i % 64 - 1)))
 
 -- what is asked to find the least behind place i and up to place j
 pub record LeastAsked (above tail front gap : List ℕ) (i j : ℕ) : Type 0 where

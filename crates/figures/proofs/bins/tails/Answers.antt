@@ -1,19 +1,7 @@
-use mathlib.Core.Path.{◌≡◌}
 use native.Mathlib.Omega.{arith}
-use Rattle.figures.proofs.Leasts.{tails_none, tail_down}
+use Rattle.figures.proofs.Leasts.{tail_down}
 use Rattle.figures.proofs.bins.tails.Goals as goal
-
-pub loop-i-init : goal.loop-i-init
-loop-i-init c = (omega arith, tails_none c.fill.ensures.long)
 
 pub loop-i-preserved : goal.loop-i-preserved
 loop-i-preserved c =
-    let loop-test-taken = c.loop-i-test.true in
-    let loop-inv = c.loop-i.invariant in (
-      omega arith,
-      tail_down loop-test-taken loop-inv.0 loop-inv.1 c.tail_behind-x.ensures
-          c.lesser.ensures,
-    )
-
-pub returns : goal.returns
-returns c = let h = c.loop-i.invariant in let e : c.loop-i.i ≡ 0 = omega arith in rw e at h.1
+    (omega arith, tail_down (omega arith) (omega arith) c.loop-i.invariant.1 c.tail_behind.ensures c.min.ensures)
