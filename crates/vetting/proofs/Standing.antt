@@ -11,9 +11,10 @@ use Rattle.pages.specs.Listing.{Entry}
 use Rattle.figures.specs.work.Bins.{Tables}
 use Rattle.vetting.specs.Vets.{Vets}
 use Rattle.vetting.specs.declared.Vetted.TheVariants.{Yes, Fault, Missing}
+use Rattle.vetting.specs.declared.pairs.Pairs.{Pairs}
 use Rattle.vetting.specs.work.Foreign.{FirstForeign}
 use Rattle.vetting.specs.work.Lines.{LineDone, Block}
-use Rattle.vetting.specs.work.Meant.{Numbers}
+use Rattle.vetting.specs.work.Meant.{Numbers, Ready}
 use Rattle.vetting.specs.work.Repeats.{Named, Unrepeated, Repeats, Repeatable}
 use Rattle.vetting.specs.work.Lacks.{InSet, FirstLack, BlockLack}
 use Rattle.vetting.specs.work.Screened.{ScreenedTo, ScreenedAll, RowsAsked, BlocksAsked}
@@ -42,8 +43,7 @@ pub numbers_of : {s : List ℕ} {m n : ℕ} {spot above tail front gap far heavy
     → Numbers n spot above tail front gap far heavy limit
 numbers_of A t = record { figurable = A.figurable; tables = t; most = A.most }
 
-pub asked_numbers : {s : List ℕ} {m n : ℕ} {spot above tail front gap far heavy : List ℕ} {limit : Limit}
-    → BlocksAsked s m n spot above tail front gap far heavy limit → Numbers n spot above tail front gap far heavy limit
+pub asked_numbers : {s : List ℕ} {m : ℕ} {p : Pairs} → BlocksAsked s m p → Ready p
 asked_numbers A = numbers_of A.rows A.tables
 
 -- the set has room for a line

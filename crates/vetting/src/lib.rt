@@ -8,6 +8,7 @@ mod bits;
 mod blocks;
 mod lacks;
 mod lines;
+mod pairs;
 mod repeats;
 mod rows;
 
@@ -16,6 +17,7 @@ ghost use Rattle.vetting.specs.work.Meant.{Meant};
 ghost use Rattle.vetting.specs.work.Screened.{RowsAsked};
 
 use crate::blocks::screen;
+use crate::pairs::Pairs;
 use crate::rows::first_foreign;
 use limits::Limit;
 use pages::Sums;
@@ -52,12 +54,20 @@ pub fn vet_rows(
         list.now m result }
 {
     figures::tables(above, tail, front, gap);
-    let row = first_foreign(
-        list, m, spot, above, tail, front, gap, far, heavy, n, limit, sums,
-    );
-    let s = screen(
-        list, m, row, spot, above, tail, front, gap, far, heavy, n, limit, sums,
-    );
+    let pairs = Pairs {
+        spot,
+        above,
+        tail,
+        front,
+        gap,
+        far,
+        heavy,
+        n,
+        limit,
+        sums,
+    };
+    let row = first_foreign(list, m, &pairs);
+    let s = screen(list, m, row, &pairs);
     if s.row < m {
         return Vetted::Fault { row: s.row };
     }

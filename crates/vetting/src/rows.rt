@@ -2,69 +2,36 @@
 ghost use Rattle.std.specs.Prelude.{◌+◌, ◌*◌, ◌≤◌, ◌<◌, length};
 ghost use Rattle.limits.specs.work.Fits.{Decides};
 ghost use Rattle.vetting.specs.work.Foreign.{Belongs, FirstForeign};
-ghost use Rattle.vetting.specs.work.Meant.{Meant, Numbers};
+ghost use Rattle.vetting.specs.work.Meant.{MeantOf, Ready};
 
-use figures::figure;
-use limits::Limit;
+use crate::pairs::Pairs;
 use numbers::{eight, four, two};
-use pages::{Sums, bits, passes};
+use pages::bits;
 
 // Whether row i belongs: it names two nodes, lower first, its length and weight are theirs, and these pass.
-fn belongs(
-    list: &[u8],
-    i: usize,
-    spot: &[u16; 4096],
-    above: &[u16; 4096],
-    tail: &[u16; 4096],
-    front: &[u16; 4096],
-    gap: &[u16; 4096],
-    far: &[u64; 4096],
-    heavy: &[u64; 4096],
-    n: usize,
-    limit: Limit,
-    sums: Sums,
-) -> bool
-    requires { Numbers n spot.now above.now tail.now front.now gap.now far.now heavy.now limit
+fn belongs(list: &[u8], i: usize, pairs: &Pairs) -> bool
+    requires { Ready pairs.now
         × (16 * i + 16 ≤ length list.now) }
-    ensures { Decides (Belongs (Meant spot.now above.now far.now
-        heavy.now n limit sums) list.now i) result }
+    ensures { Decides (Belongs (MeantOf pairs.now) list.now i) result }
 {
     let p = 16 * i;
     let a = two(list, p) as usize;
     let b = two(list, p + 2) as usize;
-    if b <= a || n <= b {
+    if b <= a || pairs.n <= b {
         return false;
     }
-    let v = figure(spot, above, tail, front, gap, far, heavy, n, a, b);
-    four(list, p + 4) == v.length
-        && eight(list, p + 8) == bits(v.weight)
-        && passes(v.length, v.weight, limit, sums)
+    let v = pairs.figure(a, b);
+    four(list, p + 4) == v.length && eight(list, p + 8) == bits(v.weight) && pairs.passes(&v)
 }
 
 // Of m rows the first that does not belong; m where all do.
-pub(crate) fn first_foreign(
-    list: &[u8],
-    m: usize,
-    spot: &[u16; 4096],
-    above: &[u16; 4096],
-    tail: &[u16; 4096],
-    front: &[u16; 4096],
-    gap: &[u16; 4096],
-    far: &[u64; 4096],
-    heavy: &[u64; 4096],
-    n: usize,
-    limit: Limit,
-    sums: Sums,
-) -> usize
-    requires { Numbers n spot.now above.now tail.now front.now gap.now far.now heavy.now limit
+pub(crate) fn first_foreign(list: &[u8], m: usize, pairs: &Pairs) -> usize
+    requires { Ready pairs.now
         × (16 * m ≤ length list.now) }
-    ensures { FirstForeign (Meant spot.now above.now far.now
-        heavy.now n limit sums) list.now m result }
+    ensures { FirstForeign (MeantOf pairs.now) list.now m result }
 {
     for i in 0..m {
-        if !belongs(
-            list, i, spot, above, tail, front, gap, far, heavy, n, limit, sums,
-        ) {
+        if !belongs(list, i, pairs) {
             return i;
         }
     }

@@ -9,6 +9,7 @@ use Rattle.pages.specs.declared.Sums.{Sums}
 use Rattle.pages.specs.work.Lowered.{InSums}
 use Rattle.figures.specs.work.Bins.{Tables}
 use Rattle.figures.specs.work.Figures.{Figures, Figurable}
+use Rattle.vetting.specs.declared.pairs.Pairs.{Pairs}
 
 -- a pair of nodes below n, lower first, with its figures, whose length and lifted weight pass
 pub record Meant (spot above far heavy : List ℕ) (n : ℕ) (limit : Limit) (sums : Sums) (e : Entry) : Type 0 where
@@ -26,3 +27,11 @@ pub record Numbers (n : ℕ) (spot above tail front gap far heavy : List ℕ) (l
   pub figurable : Figurable n spot above far heavy
   pub tables : Tables above tail front gap
   pub most : limit.most < 4294967296
+
+-- the same of the numbers that the code passes on together
+abbrev pub MeantOf : Pairs → Entry → Type 0
+MeantOf p = Meant p.spot.now p.above.now p.far.now p.heavy.now p.n p.limit p.sums
+
+abbrev pub Ready : Pairs → Type 0
+Ready p =
+    Numbers p.n p.spot.now p.above.now p.tail.now p.front.now p.gap.now p.far.now p.heavy.now p.limit

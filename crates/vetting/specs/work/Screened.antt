@@ -9,6 +9,7 @@ use Rattle.vetting.specs.work.Foreign.{Belongs}
 use Rattle.vetting.specs.work.Lines.{LineDone}
 use Rattle.vetting.specs.work.Repeats.{low_of, high_of, Named}
 use Rattle.vetting.specs.work.Lacks.{FirstLack}
+use Rattle.vetting.specs.declared.pairs.Pairs.{Pairs}
 
 -- the first r rows belong, none of those whose first node is one with D names the pair of an earlier one, and row r,
 -- where there is one, is not good
@@ -37,7 +38,6 @@ pub record RowsAsked (s : List ℕ) (m n : ℕ) (spot above far heavy : List ℕ
   pub some : 0 < n
   pub long : length s ≡ 16 * m
 
-pub record BlocksAsked (s : List ℕ) (m n : ℕ) (spot above tail front gap far heavy : List ℕ) (limit : Limit) : Type
-    0 where
-  pub rows : RowsAsked s m n spot above far heavy limit
-  pub tables : Tables above tail front gap
+pub record BlocksAsked (s : List ℕ) (m : ℕ) (p : Pairs) : Type 0 where
+  pub rows : RowsAsked s m p.n p.spot.now p.above.now p.far.now p.heavy.now p.limit
+  pub tables : Tables p.above.now p.tail.now p.front.now p.gap.now

@@ -10,19 +10,19 @@ block_high-b-requires c =
     let pre = c.requires in
     (pre.0, pre.1, omega (arith, pre.2, c.loop-next.invariant.within, c.loop-next-test.true))
 
-pub loop-next-smaller-then-b-n : goal.loop-next-smaller-then-b-n
-loop-next-smaller-then-b-n c =
+pub loop-next-smaller-then-b-pairs : goal.loop-next-smaller-then-b-pairs
+loop-next-smaller-then-b-pairs c =
     let loop-inv = c.loop-next.invariant in
     let pre = c.requires in
     omega (arith, pre.2, loop-inv.within, c.loop-next-test.true)
 
-pub loop-next-preserved-then-b-n : goal.loop-next-preserved-then-b-n
-loop-next-preserved-then-b-n c =
+pub loop-next-preserved-then-b-pairs : goal.loop-next-preserved-then-b-pairs
+loop-next-preserved-then-b-pairs c =
     let loop-test-taken = c.loop-next-test.true in
     let loop-inv = c.loop-next.invariant in
     let pre = c.requires in
     lows_found loop-inv loop-test-taken c.block_high-b.ensures
-    (omega (arith, pre.2, loop-inv.within, loop-test-taken)) c.if-b-n.true
+    (omega (arith, pre.2, loop-inv.within, loop-test-taken)) c.if-b-pairs.true
 
 pub loop-next-smaller : goal.loop-next-smaller
 loop-next-smaller c =
@@ -34,7 +34,7 @@ pub loop-next-preserved : goal.loop-next-preserved
 loop-next-preserved c =
     let loop-inv = c.loop-next.invariant in
     lows_next loop-inv c.loop-next-test.true c.block_high-b.ensures
-    (omega (arith, c.if-b-n.false))
+    (omega (arith, c.if-b-pairs.false))
 
 pub returns : goal.returns
 returns c =

@@ -18,7 +18,7 @@ pub figure-v-requires : goal.figure-v-requires
 figure-v-requires c =
     let args = c.args in
     let pre = c.requires in
-    figures_asked args.sums pre.0 pre.1.pair pre.1.node
+    figures_asked args.pairs.now.sums pre.0 pre.1.pair pre.1.node
 
 pub returns : goal.returns
 returns c =
