@@ -6,7 +6,7 @@ ghost use Rattle.net.specs.Net.{first_end, second_end};
 ghost use Rattle.mesh.specs.work.Rows.{MeshReadable};
 ghost use Rattle.mesh.specs.work.Bands.{Later, NamedFrom, BandSizes, SomeRound, RoundEnd, SomeHung, PassesEnd};
 
-use crate::fill::fill;
+use crate::hang::Tree;
 use arrays::wide;
 use net::{first_end, second_end};
 
@@ -20,21 +20,21 @@ fn later(place: &[u16; 256], x: usize, y: usize) -> usize
 
 // Names the band of the nodes that a row from p to q passes over: up from both ends to where they meet. False where one
 // is of a band already.
-fn round(par: &[u16; 256], place: &[u16; 256], p: usize, q: usize, over: &mut [u16; 256]) -> bool
-    requires { SomeRound par.now place.now p q over.old }
-    ensures { RoundEnd par.now place.now p q over.old over.new result }
+fn round(tree: &Tree, p: usize, q: usize, over: &mut [u16; 256]) -> bool
+    requires { SomeRound tree.now.par tree.now.place p q over.old }
+    ensures { RoundEnd tree.now.par tree.now.place p q over.old over.new result }
 {
-    let band = later(place, p, q);
+    let band = later(&tree.place, p, q);
     let mut x = p;
     let mut y = q;
     while x != y {
-        let z = later(place, x, y);
+        let z = later(&tree.place, x, y);
         if over[z] != 256 {
             return false;
         }
         over[z] = band as u16;
         y = x + y - z;
-        x = wide(par[z]);
+        x = wide(tree.par[z]);
     }
     true
 }
@@ -46,28 +46,21 @@ fn extra(d: usize, e: usize, p: usize, q: usize) -> bool
     d != q && e != p
 }
 
-// For all rows that are no node's own; false as soon as two pass over one node.
-pub(crate) fn passes(
-    s: &[u8],
-    rows: usize,
-    par: &[u16; 256],
-    place: &[u16; 256],
-    over: &mut [u16; 256],
-) -> bool
+// For all rows that are no node's own; None as soon as two pass over one node.
+pub(crate) fn passes(s: &[u8], rows: usize, tree: &Tree) -> Option<[u16; 256]>
     requires { MeshReadable s.now rows 256
-        × SomeHung (first_end s.now) (second_end s.now) rows par.now place.now }
-    ensures { PassesEnd (first_end s.now) (second_end s.now) rows par.now
-        place.now over.new result }
+        × SomeHung (first_end s.now) (second_end s.now) rows tree.now.par tree.now.place }
+    ensures { PassesEnd (first_end s.now) (second_end s.now) rows tree.now.par tree.now.place result }
 {
-    fill(over, 256);
+    let mut over: [u16; 256] = [256; 256];
     for r in 0..rows {
         let p = first_end(s, r);
         let q = second_end(s, r);
-        if extra(wide(par[p]), wide(par[q]), p, q) && !round(par, place, p, q, over) {
-            return false;
+        if extra(wide(tree.par[p]), wide(tree.par[q]), p, q) && !round(tree, p, q, &mut over) {
+            return None;
         }
     }
-    true
+    Some(over)
 }
 
 // A node that no row passes over is a band by itself.
@@ -77,16 +70,28 @@ fn named(w: u16, x: usize) -> usize
     if w == 256 { x } else { wide(w) }
 }
 
+// Each node's band, and how many nodes each band has. Before the bands are named `over` has 256, and no None, for a node
+// that no row passes over: the named bands stand in the same places, and there every node has one.
+#[derive(Drop)]
+pub(crate) struct Bands {
+    pub over: [u16; 256],
+    pub size: [u16; 256],
+}
+
 // Names the bands of one node, and counts the nodes of each band.
-pub(crate) fn sizes(n: usize, over: &mut [u16; 256], size: &mut [u16; 256])
-    requires { (n ≤ 256) × (length over.old ≡ 256) × ((x : ℕ) → x < n → at over.old x ≤ 256) }
-    ensures { NamedFrom n over.old over.new × (length over.new ≡ 256)
-        × BandSizes n over.new size.new }
+pub(crate) fn sizes(n: usize, over: [u16; 256]) -> Bands
+    requires { (n ≤ 256) × (length over ≡ 256) × ((x : ℕ) → x < n → at over x ≤ 256) }
+    ensures { NamedFrom n over result.over × (length result.over ≡ 256)
+        × BandSizes n result.over result.size }
 {
-    fill(size, 0);
+    let mut bands = Bands {
+        over,
+        size: [0; 256],
+    };
     for x in 0..n {
-        let g = named(over[x], x);
-        over[x] = g as u16;
-        size[g] += 1;
+        let g = named(bands.over[x], x);
+        bands.over[x] = g as u16;
+        bands.size[g] += 1;
     }
+    bands
 }

@@ -16,39 +16,45 @@ ghost use Rattle.mesh.specs.work.Hung.{
   TurnedTo,
 };
 
-use crate::fill::fill;
 use arrays::wide;
 use net::{first_end, second_end};
 
-// The root alone.
-fn start(a: usize, par: &mut [u16; 256], order: &mut [u16; 256], place: &mut [u16; 256])
-    requires { a < 256 }
-    ensures { RootAlone a par.new order.new place.new }
-{
-    fill(par, 0);
-    fill(order, 0);
-    fill(place, 256);
-    par[a] = a as u16;
-    order[0] = a as u16;
-    place[a] = 0;
+// For each node its parent, the nodes in the order in which they were hung up, and for each node its place in that
+// order, 256 for one that does not hang.
+#[derive(Drop)]
+pub(crate) struct Tree {
+    pub par: [u16; 256],
+    pub order: [u16; 256],
+    pub place: [u16; 256],
 }
 
-// Hangs c up below d, in the order as the m-th.
-fn hang(
-    par: &mut [u16; 256],
-    order: &mut [u16; 256],
-    place: &mut [u16; 256],
-    m: usize,
-    c: usize,
-    d: usize,
-)
-    requires { (m < 256) × (c < 256) × (d < 256) }
-    ensures { (par.new ≡ set par.old c d)
-        × (order.new ≡ set order.old m c) × (place.new ≡ set place.old c m) }
+// The root alone.
+fn start(a: usize) -> Tree
+    requires { a < 256 }
+    ensures { RootAlone a result.par result.order result.place }
 {
-    par[c] = d as u16;
-    order[m] = c as u16;
-    place[c] = m as u16;
+    let mut tree = Tree {
+        par: [0; 256],
+        order: [0; 256],
+        place: [256; 256],
+    };
+    tree.par[a] = a as u16;
+    tree.order[0] = a as u16;
+    tree.place[a] = 0;
+    tree
+}
+
+impl Tree {
+    // Hangs c up below d, in the order as the m-th.
+    fn hang(&mut self, m: usize, c: usize, d: usize)
+        requires { (m < 256) × (c < 256) × (d < 256) }
+        ensures { (self.new.par ≡ set self.old.par c d)
+            × (self.new.order ≡ set self.old.order m c) × (self.new.place ≡ set self.old.place c m) }
+    {
+        self.par[c] = d as u16;
+        self.order[m] = c as u16;
+        self.place[c] = m as u16;
+    }
 }
 
 // Of two places one is taken and the other is not.
@@ -88,63 +94,50 @@ fn missing(place: &[u16; 256], n: usize) -> bool
     place[..n].contains(&256)
 }
 
-// Hangs up all nodes that are joined to node 0. Whether these are all n.
-pub(crate) fn spread(
-    s: &[u8],
-    rows: usize,
-    n: usize,
-    par: &mut [u16; 256],
-    order: &mut [u16; 256],
-    place: &mut [u16; 256],
-) -> bool
+// All nodes that are joined to node 0, hung up there; None where these are not all n.
+pub(crate) fn spread(s: &[u8], rows: usize, n: usize) -> Option<Tree>
     requires { MeshReadable s.now rows n × (0 < n) }
-    ensures { (result ≡ true → HungAt (first_end s.now) (second_end s.now) rows n 0
-        par.new order.new place.new)
-        × (result ≡ false → ¬ Connected (first_end s.now) (second_end s.now) rows n) }
+    ensures { MatchOption result (¬ Connected (first_end s.now) (second_end s.now) rows n)
+        (λ t. HungAt (first_end s.now) (second_end s.now) rows n 0 t.par t.order t.place) }
 {
-    start(0, par, order, place);
+    let mut tree = start(0);
     let mut m: usize = 1;
-    while let Some(r) = leads(s, rows, place) {
+    while let Some(r) = leads(s, rows, &tree.place) {
         let p = first_end(s, r);
         let q = second_end(s, r);
-        let c = new_end(place[p], p, q);
+        let c = new_end(tree.place[p], p, q);
         let d = p + q - c;
-        hang(par, order, place, m, c, d);
+        tree.hang(m, c, d);
         m += 1;
     }
-    !missing(place, n)
+    if missing(&tree.place, n) {
+        return None;
+    }
+    Some(tree)
 }
 
 // The tree of node 0 hung up at node a: first the climb from a to node 0, turned round, then every other node below its
 // old parent, in the old order.
-pub(crate) fn turn(
-    n: usize,
-    par0: &[u16; 256],
-    order0: &[u16; 256],
-    a: usize,
-    par: &mut [u16; 256],
-    order: &mut [u16; 256],
-    place: &mut [u16; 256],
-)
-    requires { SomeTree n par0.now order0.now × (a < n) }
-    ensures { TurnedTo n par0.now order0.now a par.new order.new
-        place.new }
+pub(crate) fn turn(n: usize, old: &Tree, a: usize) -> Tree
+    requires { SomeTree n old.now.par old.now.order × (a < n) }
+    ensures { TurnedTo n old.now.par old.now.order a result.par result.order result.place }
 {
-    start(a, par, order, place);
+    let mut tree = start(a);
     let mut m: usize = 1;
     let mut x = a;
     while x != 0 {
-        let p = wide(par0[x]);
-        hang(par, order, place, m, p, x);
+        let p = wide(old.par[x]);
+        tree.hang(m, p, x);
         m += 1;
         x = p;
     }
     for i in 1..n {
-        let y = wide(order0[i]);
-        if place[y] == 256 {
-            let p = wide(par0[y]);
-            hang(par, order, place, m, y, p);
+        let y = wide(old.order[i]);
+        if tree.place[y] == 256 {
+            let p = wide(old.par[y]);
+            tree.hang(m, y, p);
             m += 1;
         }
     }
+    tree
 }

@@ -3,7 +3,6 @@
 #![tactic(auto)]
 
 mod bands;
-mod fill;
 mod hang;
 mod header;
 mod repeats;
@@ -22,6 +21,7 @@ ghost use Rattle.mesh.specs.work.Hung.{HungAt};
 ghost use Rattle.mesh.specs.work.Bands.{NoRepeat};
 ghost use Rattle.mesh.specs.work.Roots.{FromRoot};
 
+use crate::hang::Tree;
 use tree::Refusal;
 
 // The most branches on a simple path and the two ends of the first path that has so many, or why not.
@@ -49,40 +49,20 @@ fn refused(number: u8, row: usize) -> MeshAnswer
 }
 
 // The most branches on a simple path from node a; None for 38.
-fn from_root(
-    s: &[u8],
-    rows: usize,
-    n: usize,
-    par0: &[u16; 256],
-    order0: &[u16; 256],
-    a: usize,
-) -> Option<Far>
+fn from_root(s: &[u8], rows: usize, n: usize, tree0: &Tree, a: usize) -> Option<Far>
     requires { MeshReadable s.now rows n
-        × ((place0 : List ℕ)
-        × HungAt (first_end s.now) (second_end s.now) rows n 0 par0.now order0.now place0)
+        × HungAt (first_end s.now) (second_end s.now) rows n 0 tree0.now.par tree0.now.order tree0.now.place
         × NoRepeat (first_end s.now) (second_end s.now) rows × (a < n) }
     ensures { MatchOption result (¬ OneRing (first_end s.now) (second_end s.now) rows)
         (λ f. FromRoot (first_end s.now) (second_end s.now) rows a f.branches f.node × (f.node < n)) }
 {
-    let mut par: [u16; 256] = [0; 256];
-    let mut order: [u16; 256] = [0; 256];
-    let mut place: [u16; 256] = [0; 256];
-    let mut over: [u16; 256] = [0; 256];
-    let mut size: [u16; 256] = [0; 256];
-    let mut most: [u16; 256] = [0; 256];
-    let mut base: [u16; 256] = [0; 256];
-    let mut climb: [u16; 256] = [0; 256];
-    hang::turn(n, par0, order0, a, &mut par, &mut order, &mut place);
-    if !bands::passes(s, rows, &par, &place, &mut over) {
-        return None;
-    }
-    bands::sizes(n, &mut over, &mut size);
-    sweep::sweep(
-        n, &par, &order, &over, &size, &mut most, &mut base, &mut climb,
-    );
-    let node = sweep::farthest(&most, n);
+    let tree = hang::turn(n, tree0, a);
+    let over = bands::passes(s, rows, &tree)?;
+    let bands = bands::sizes(n, over);
+    let swept = sweep::sweep(n, &tree, &bands);
+    let node = sweep::farthest(&swept.most, n);
     Some(Far {
-        branches: most[node],
+        branches: swept.most[node],
         node,
     })
 }
@@ -92,17 +72,14 @@ fn from_all(s: &[u8], rows: usize, n: usize) -> MeshAnswer
     requires { MeshReadable s.now rows n × (0 < n) × NoRepeat (first_end s.now) (second_end s.now) rows }
     ensures { MeshJoined (first_end s.now) (second_end s.now) rows n result }
 {
-    let mut par: [u16; 256] = [0; 256];
-    let mut order: [u16; 256] = [0; 256];
-    let mut place: [u16; 256] = [0; 256];
-    if !hang::spread(s, rows, n, &mut par, &mut order, &mut place) {
+    let Some(tree) = hang::spread(s, rows, n) else {
         return refused(37, 0);
-    }
+    };
     let mut branches: u16 = 0;
     let mut low: usize = 0;
     let mut high: usize = 0;
     for a in 0..n {
-        let Some(far) = from_root(s, rows, n, &par, &order, a) else {
+        let Some(far) = from_root(s, rows, n, &tree, a) else {
             return refused(38, 0);
         };
         if branches < far.branches {

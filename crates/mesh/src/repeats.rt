@@ -37,7 +37,8 @@ fn seen_as(j: usize) -> u8
     u8::from(j < 16384)
 }
 
-// Of the rows below limit with cells among these the first that repeats a pair, or limit.
+// Of the rows below limit with cells among these the first that repeats a pair, or limit: either is the limit of the
+// next pass, so that there is no None here.
 fn repeat_in(s: &[u8], from: usize, limit: usize) -> usize
     requires { MeshReadable s.now limit 256 × (from < 65536) }
     ensures { RepeatIn (first_end s.now) (second_end s.now) from limit result }

@@ -5,7 +5,8 @@ ghost use Rattle.mesh.specs.work.Hung.{InOrder};
 ghost use Rattle.mesh.specs.work.Bands.{BandSizes};
 ghost use Rattle.mesh.specs.work.Sweep.{LongerWay, SweptOn, Computed, Farthest};
 
-use crate::fill::fill;
+use crate::bands::Bands;
+use crate::hang::Tree;
 use arrays::wide;
 
 #[derive(Drop)]
@@ -37,36 +38,43 @@ fn best(b: u16, i: u16, m: u16) -> u16
     if i + i > m { b + i } else { b + (m + 1 - i) }
 }
 
+// For each node the most branches on a path to it, and the two ways round its ring: how many come before the ring, and
+// how many lie on it the one way.
+#[derive(Drop)]
+pub(crate) struct Swept {
+    pub most: [u16; 256],
+    pub base: [u16; 256],
+    pub climb: [u16; 256],
+}
+
 // Root first, each node after its parent.
-pub(crate) fn sweep(
-    n: usize,
-    par: &[u16; 256],
-    order: &[u16; 256],
-    over: &[u16; 256],
-    size: &[u16; 256],
-    most: &mut [u16; 256],
-    base: &mut [u16; 256],
-    climb: &mut [u16; 256],
-)
-    requires { InOrder n par.now order.now × BandSizes n over.now size.now }
-    ensures { Computed n (at order.now 0) par.now over.now most.new
-        base.new climb.new × (length most.new ≡ 256) }
+pub(crate) fn sweep(n: usize, tree: &Tree, bands: &Bands) -> Swept
+    requires { InOrder n tree.now.par tree.now.order × BandSizes n bands.now.over bands.now.size }
+    ensures { Computed n (at tree.now.order 0) tree.now.par bands.now.over result.most
+        result.base result.climb × (length result.most ≡ 256) }
 {
-    fill(most, 0);
-    fill(base, 0);
-    fill(climb, 0);
+    let mut swept = Swept {
+        most: [0; 256],
+        base: [0; 256],
+        climb: [0; 256],
+    };
     for j in 1..n {
-        let z = wide(order[j]);
-        let p = wide(par[z]);
-        let f = over[z];
-        let t = advance(over[p], f, most[p], base[p], climb[p]);
-        let b = t.base;
-        let i = t.climb;
-        let d = best(b, i, size[wide(f)]);
-        base[z] = b;
-        climb[z] = i;
-        most[z] = d;
+        let z = wide(tree.order[j]);
+        let p = wide(tree.par[z]);
+        let f = bands.over[z];
+        let t = advance(
+            bands.over[p],
+            f,
+            swept.most[p],
+            swept.base[p],
+            swept.climb[p],
+        );
+        let d = best(t.base, t.climb, bands.size[wide(f)]);
+        swept.base[z] = t.base;
+        swept.climb[z] = t.climb;
+        swept.most[z] = d;
     }
+    swept
 }
 
 // The first node with the greatest value.

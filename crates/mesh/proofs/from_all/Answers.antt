@@ -7,11 +7,11 @@ use Rattle.mesh.proofs.from_all.Goals as goal
 pub spread-requires : goal.spread-requires
 spread-requires c = (c.requires.0, c.requires.1)
 
-pub returns-then-not-spread : goal.returns-then-not-spread
-returns-then-not-spread c = rw c.refused.ensures (refused (c.spread.ensures.1 c.if-not-spread.true))
+pub returns-in_default : goal.returns-in_default
+returns-in_default c = rw c.refused.ensures (refused c.in_default.ensures)
 
 pub loop-a-init : goal.loop-a-init
-loop-a-init c = (rooting_start c.requires.1, (_, c.spread.ensures.0 c.if-not-spread.false))
+loop-a-init c = (rooting_start c.requires.1, c.in-Some.ensures)
 
 pub from_root-requires : goal.from_root-requires
 from_root-requires c =
@@ -19,13 +19,14 @@ from_root-requires c =
     let pre = c.requires in
     (pre.0, loop-inv.1, pre.2, c.loop-a-test.true)
 
-pub returns-in_default : goal.returns-in_default
-returns-in_default c =
-    rw c.refused-in_default.ensures (two_rings_refused c.loop-a.invariant.1.1 c.in_default.ensures)
+pub returns-in_default-from_root : goal.returns-in_default-from_root
+returns-in_default-from_root c =
+    rw c.refused-in_default-from_root.ensures
+    (two_rings_refused c.loop-a.invariant.1 c.in_default-from_root.ensures)
 
 pub loop-a-preserved : goal.loop-a-preserved
 loop-a-preserved c =
-    let far = c.in-Some.ensures in
+    let far = c.in-Some-from_root.ensures in
     let loop-inv = c.loop-a.invariant in
     elim c.if-branches-far.branch [
       | then-branches-far w ↦
@@ -47,4 +48,4 @@ overflow_cast-result-2 c =
     omega (arith, c.loop-a.invariant.0.fits.1, pre.0.few)
 
 pub returns : goal.returns
-returns c = rooting_end c.loop-a.invariant.0 c.loop-a.invariant.1.1 (λ h. omega arith)
+returns c = rooting_end c.loop-a.invariant.0 c.loop-a.invariant.1 (λ h. omega arith)

@@ -2,11 +2,9 @@
 use Rattle.mesh.proofs.Roots.{Rooting}
 use Rattle.mesh.specs.work.Hung.{HungAt}
 use Rattle.net.specs.Net.{first_end, second_end}
-use mathlib.Core.List.{List}
-use Prim.Native.Nat.{ℕ}
 use Rattle.mesh.proofs.from_all.Given as goal
 
 abbrev pub invariant-loop-a : goal.invariant-loop-a
 invariant-loop-a l =
     Rooting (first_end l.s) (second_end l.s) l.rows l.n l.a l.branches l.low l.high
-    × ((place : List ℕ) × HungAt (first_end l.s) (second_end l.s) l.rows l.n 0 l.par l.order place)
+    × HungAt (first_end l.s) (second_end l.s) l.rows l.n 0 l.tree.par l.tree.order l.tree.place

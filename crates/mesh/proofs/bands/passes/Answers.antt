@@ -1,12 +1,12 @@
+use Rattle.arrays.proofs.Fills.{filled}
 use Rattle.mesh.proofs.Climbs.{passes_start, passes_skip, extra_not, round_of}
-use mathlib.Core.Bool.{true≢false, false≢true}
 use mathlib.Core.Path.{◌≡◌}
 use native.Mathlib.Omega.{arith}
 use Rattle.mesh.proofs.bands.passes.Goals.{else-extra-via-then-extra+else-not-round, else-extra-via-else-extra}
 use Rattle.mesh.proofs.bands.passes.Goals as goal
 
 pub loop-r-init : goal.loop-r-init
-loop-r-init c = (omega arith, λ n a order h. passes_start h.few c.fill.ensures)
+loop-r-init c = (omega arith, λ n a order h. passes_start h.few (filled _ _))
 
 pub first_end-p-requires : goal.first_end-p-requires
 first_end-p-requires c = c.requires.0.stands _ c.loop-r-test.true
@@ -15,28 +15,6 @@ pub second_end-q-requires : goal.second_end-q-requires
 second_end-q-requires c =
     let pre = c.requires in
     pre.0.stands _ c.loop-r-test.true
-
-pub offset_bounds-par-p : goal.offset_bounds-par-p
-offset_bounds-par-p c =
-    let pre = c.requires in
-    omega (arith, c.first_end-p.ensures, pre.0.rows.first _ c.loop-r-test.true)
-
-pub bounds-par-p : goal.bounds-par-p
-bounds-par-p c =
-    let pre = c.requires in
-    omega (arith, c.first_end-p.ensures, pre.0.rows.first _ c.loop-r-test.true)
-
-pub offset_bounds-par-q : goal.offset_bounds-par-q
-offset_bounds-par-q c =
-    let loop-test-taken = c.loop-r-test.true in
-    let pre = c.requires in
-    omega (arith, c.second_end-q.ensures, pre.0.rows.second _ loop-test-taken)
-
-pub bounds-par-q : goal.bounds-par-q
-bounds-par-q c =
-    let loop-test-taken = c.loop-r-test.true in
-    let pre = c.requires in
-    omega (arith, c.second_end-q.ensures, pre.0.rows.second _ loop-test-taken)
 
 pub round-requires : goal.round-requires
 round-requires c =
@@ -67,7 +45,7 @@ returns-then-not-round c =
     λ n a order h.
     let t = round_of h c.loop-r-test.true first-end-ensures second-end-ensures c.wide.ensures.0
     c.wide-in-loop-r.ensures.0 (c.extra.ensures.0 c.if-extra.true) (c.loop-r.invariant.1 n a order h) in
-    (λ e. absurd (false≢true e), λ _. (c.round.ensures _ _ _ n a order _ t).1 c.if-not-round.true)
+    (c.round.ensures _ _ _ n a order _ t).1 c.if-not-round.true
 
 pub loop-r-preserved : goal.loop-r-preserved
 loop-r-preserved c =
@@ -93,7 +71,5 @@ loop-r-preserved c =
 
 pub returns : goal.returns
 returns c =
-    let args = c.args in
-    λ n a order h.
-    let e : c.loop-r.r ≡ args.rows = omega arith in
-    (λ _. rw e at (c.loop-r.invariant.1 n a order h), λ t. absurd (true≢false t))
+    let e : c.loop-r.r ≡ c.args.rows = omega arith in
+    λ n a order h. rw e at (c.loop-r.invariant.1 n a order h)

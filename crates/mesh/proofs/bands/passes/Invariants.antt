@@ -9,5 +9,5 @@ use Rattle.mesh.proofs.bands.passes.Given as goal
 abbrev pub invariant-loop-r : goal.invariant-loop-r
 invariant-loop-r l =
     (l.r ≤ l.rows)
-    × ((n a : ℕ) (order : List ℕ) → HungAt (first_end l.s) (second_end l.s) l.rows n a l.par order l.place
-    → AllPassed (first_end l.s) (second_end l.s) n a l.par l.place l.r l.over)
+    × ((n a : ℕ) (order : List ℕ) → HungAt (first_end l.s) (second_end l.s) l.rows n a l.tree.par order l.tree.place
+    → AllPassed (first_end l.s) (second_end l.s) n a l.tree.par l.tree.place l.r l.over)

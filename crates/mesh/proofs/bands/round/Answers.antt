@@ -50,12 +50,6 @@ overflow_cast-over c =
     let s = loop-inv _ _ _ _ _ _ _ pre.round in
     omega (arith, band_low s loop-test-taken _ c.later-z.ensures, s.hung.few)
 
-pub offset_bounds-over-z-in-loop-x : goal.offset_bounds-over-z-in-loop-x
-offset_bounds-over-z-in-loop-x c = omega (arith, z_in (goal.at.offset_bounds-over-z-in-loop-x c).After-later-z)
-
-pub bounds-over-z-in-loop-x : goal.bounds-over-z-in-loop-x
-bounds-over-z-in-loop-x c = omega (arith, z_in (goal.at.bounds-over-z-in-loop-x c).After-later-z)
-
 pub overflow_add-y : goal.overflow_add-y
 overflow_add-y c =
     let loop-inv = c.loop-x.invariant in
@@ -72,12 +66,6 @@ overflow_sub-y c =
       arith,
       (step_fits (loop-inv _ _ _ _ _ _ _ pre.round) loop-test-taken _ c.later-z.ensures).1,
     )
-
-pub offset_bounds-par-z : goal.offset_bounds-par-z
-offset_bounds-par-z c = omega (arith, z_in (goal.at.offset_bounds-par-z c).After-later-z)
-
-pub bounds-par-z : goal.bounds-par-z
-bounds-par-z c = omega (arith, z_in (goal.at.bounds-par-z c).After-later-z)
 
 pub loop-x-smaller : goal.loop-x-smaller
 loop-x-smaller c =

@@ -8,8 +8,8 @@ use Rattle.mesh.proofs.bands.round.Given as goal
 
 abbrev pub invariant-loop-x : goal.invariant-loop-x
 invariant-loop-x l =
-    (u v : ℕ → ℕ) (k n a : ℕ) (order : List ℕ) (r : ℕ) → Round u v k n a l.par order l.place r l.p l.q l.initial.over
-    → Climb u v k n a l.par order l.place r l.band l.x l.y l.over
+    (u v : ℕ → ℕ) (k n a : ℕ) (order : List ℕ) (r : ℕ) → Round u v k n a l.tree.par order l.tree.place r l.p l.q l.initial.over
+    → Climb u v k n a l.tree.par order l.tree.place r l.band l.x l.y l.over
 
 abbrev pub decreases-loop-x : goal.decreases-loop-x
-decreases-loop-x l = at l.place l.x + at l.place l.y
+decreases-loop-x l = at l.tree.place l.x + at l.tree.place l.y

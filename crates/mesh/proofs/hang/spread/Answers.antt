@@ -10,7 +10,6 @@ use Rattle.mesh.proofs.Growing.{
   spread_apart,
 }
 use Rattle.mesh.proofs.Reading.{wide_readable}
-use borrow.Author.Tests.{not-true, not-false}
 use native.Mathlib.Omega.{arith}
 use Rattle.mesh.proofs.hang.spread.Goals as goal
 
@@ -19,7 +18,7 @@ loop-r-init c =
     let pre = c.requires in
     record {
       rows = pre.0.rows;
-      grown = grown_start pre.0.few pre.1 c.start.ensures;
+      grown = grown_start pre.0.few pre.1 c.start-tree.ensures;
     }
 
 pub first_end-p-requires : goal.first_end-p-requires
@@ -32,8 +31,8 @@ second_end-q-requires c =
     let pre = c.requires in
     pre.0.stands _ c.in-Some.ensures.within
 
-pub offset_bounds-place-p : goal.offset_bounds-place-p
-offset_bounds-place-p c =
+pub offset_bounds-tree-p : goal.offset_bounds-tree-p
+offset_bounds-tree-p c =
     let loop-inv = c.loop-r.invariant in
     let pre = c.requires in
     omega (
@@ -43,8 +42,8 @@ offset_bounds-place-p c =
       pre.0.few,
     )
 
-pub bounds-place-p : goal.bounds-place-p
-bounds-place-p c =
+pub bounds-tree-p : goal.bounds-tree-p
+bounds-tree-p c =
     let loop-inv = c.loop-r.invariant in
     let pre = c.requires in
     omega (
@@ -121,10 +120,11 @@ loop-r-preserved c =
 pub missing-requires : goal.missing-requires
 missing-requires c = c.requires.0.few
 
+pub returns-then-missing : goal.returns-then-missing
+returns-then-missing c =
+    spread_apart (spread_end c.loop-r.invariant c.in_default.ensures) (c.missing.ensures.0 c.if-missing.true)
+
 pub returns : goal.returns
 returns c =
     let loop-inv = c.loop-r.invariant in
-    let whole = spread_end loop-inv c.in_default.ensures in (
-      λ t. spread_hung whole loop-inv.rows (c.missing.ensures.1 (not-true _ t)),
-      λ t. spread_apart whole (c.missing.ensures.0 (not-false _ t)),
-    )
+    spread_hung (spread_end loop-inv c.in_default.ensures) loop-inv.rows (c.missing.ensures.1 c.if-missing.false)

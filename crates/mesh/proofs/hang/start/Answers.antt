@@ -1,9 +1,7 @@
 -- `start` meets its contract: three arrays filled, and the root's places set.
+use Rattle.arrays.proofs.Fills.{filled}
 use Rattle.mesh.proofs.Growing.{root_alone}
 use Rattle.mesh.proofs.hang.start.Goals as goal
 
 pub returns : goal.returns
-returns c =
-    let fill-ensures = c.fill.ensures in
-    let pre = c.requires in
-    root_alone pre fill-ensures c.fill-2.ensures c.fill-3.ensures
+returns c = root_alone c.requires (filled _ _) (filled _ _) (filled _ _)

@@ -14,7 +14,7 @@ use Rattle.arrays.specs.At.{at}
 use Prim.Native.Nat.{◌<◌}
 use mathlib.Core.Path.{ap}
 use native.Mathlib.Omega.{arith}
-use Rattle.mesh.proofs.hang.turn.Goals.{After-wide-y, then-place-y-eq256, else-place-y-eq256}
+use Rattle.mesh.proofs.hang.turn.Goals.{After-wide-y, then-tree-y-eq256, else-tree-y-eq256}
 use Rattle.mesh.proofs.hang.turn.Goals as goal
 
 y_in : (c : After-wide-y) → c.wide-y.result < 256
@@ -23,21 +23,18 @@ y_in c =
     let s = c.loop-i.invariant _ _ _ _ h in
     omega (arith, c.wide-y.ensures.0, y_fits h s c.loop-i-test.true, h.few)
 
-pub start-requires : goal.start-requires
-start-requires c = omega (arith, c.requires.1, c.requires.0.hung.few)
-
 pub loop-x-init : goal.loop-x-init
 loop-x-init c =
     let pre = c.requires in
-    λ u v k place0 h. climbing_start h (grown_start pre.0.hung.few pre.1 c.start.ensures)
+    λ u v k place0 h. climbing_start h (grown_start pre.0.hung.few pre.1 c.start-tree.ensures)
 
-pub offset_bounds-par0-x : goal.offset_bounds-par0-x
-offset_bounds-par0-x c =
+pub offset_bounds-old-x : goal.offset_bounds-old-x
+offset_bounds-old-x c =
     let h = c.requires.0.hung in
     omega (arith, (c.loop-x.invariant _ _ _ _ h).here.0, h.few)
 
-pub bounds-par0-x : goal.bounds-par0-x
-bounds-par0-x c =
+pub bounds-old-x : goal.bounds-old-x
+bounds-old-x c =
     let h = c.requires.0.hung in
     omega (arith, (c.loop-x.invariant _ _ _ _ h).here.0, h.few)
 
@@ -75,30 +72,10 @@ loop-x-preserved c =
 pub loop-i-init : goal.loop-i-init
 loop-i-init c = λ u v k place0 h. turning_start h (c.loop-x.invariant u v k place0 h) (λ q. q c.loop-x-test.false)
 
-pub offset_bounds-order0-i : goal.offset_bounds-order0-i
-offset_bounds-order0-i c = omega (arith, c.requires.0.hung.few)
-
-pub bounds-order0-i : goal.bounds-order0-i
-bounds-order0-i c =
-    let pre = c.requires in
-    omega (arith, pre.0.hung.few)
-
-pub offset_bounds-place-y : goal.offset_bounds-place-y
-offset_bounds-place-y c = omega (arith, y_in c)
-
-pub bounds-place-y : goal.bounds-place-y
-bounds-place-y c = omega (arith, y_in (goal.at.bounds-place-y c).After-wide-y)
-
-pub offset_bounds-par0-y : goal.offset_bounds-par0-y
-offset_bounds-par0-y c = omega (arith, y_in (goal.at.offset_bounds-par0-y c).After-wide-y)
-
-pub bounds-par0-y : goal.bounds-par0-y
-bounds-par0-y c = omega (arith, y_in (goal.at.bounds-par0-y c).After-wide-y)
-
-pub hang-requires-then-place-y-eq256 : goal.hang-requires-then-place-y-eq256
-hang-requires-then-place-y-eq256 c =
-    let wide3-ensures = c.wide-p-then-place-y-eq256.ensures in
-    let if1-taken = c.if-place-y-eq256.true in
+pub hang-requires-then-tree-y-eq256 : goal.hang-requires-then-tree-y-eq256
+hang-requires-then-tree-y-eq256 c =
+    let wide3-ensures = c.wide-p-then-tree-y-eq256.ensures in
+    let if1-taken = c.if-tree-y-eq256.true in
     let wide2-ensures = c.wide-y.ensures in
     let loop2-test-taken = c.loop-i-test.true in
     let loop2-inv = c.loop-i.invariant in
@@ -108,12 +85,12 @@ hang-requires-then-place-y-eq256 c =
     let t = turning_ready h s loop2-test-taken (rw wide2-ensures.0 at if1-taken) in (
       room t,
       omega (arith, wide2-ensures.0, (c_fits t).0),
-      omega (arith, wide3-ensures.0, ap (λ y. at args.par0.now y) wide2-ensures.0, (c_fits t).1),
+      omega (arith, wide3-ensures.0, ap (λ y. at args.old.now.par y) wide2-ensures.0, (c_fits t).1),
     )
 
-pub overflow_add-m-then-place-y-eq256 : goal.overflow_add-m-then-place-y-eq256
-overflow_add-m-then-place-y-eq256 c =
-    let if1-taken = c.if-place-y-eq256.true in
+pub overflow_add-m-then-tree-y-eq256 : goal.overflow_add-m-then-tree-y-eq256
+overflow_add-m-then-tree-y-eq256 c =
+    let if1-taken = c.if-tree-y-eq256.true in
     let wide2-ensures = c.wide-y.ensures in
     let loop2-test-taken = c.loop-i-test.true in
     let loop2-inv = c.loop-i.invariant in
@@ -126,22 +103,20 @@ loop-i-preserved c =
     let loop-test-taken = c.loop-i-test.true in
     let loop-inv = c.loop-i.invariant in
     let at-y = c.wide-y.ensures in
-    elim c.if-place-y-eq256.branch [
-      | then-place-y-eq256 w ↦
+    elim c.if-tree-y-eq256.branch [
+      | then-tree-y-eq256 w ↦
           λ u v k place0 h. rw (
-            w.par-is,
-            w.order-is,
-            w.place-is,
+            w.tree-is,
             w.m-is,
-            w.hang-then-place-y-eq256.ensures.0,
-            w.hang-then-place-y-eq256.ensures.1,
-            w.hang-then-place-y-eq256.ensures.2,
-            w.wide-p-then-place-y-eq256.ensures.0,
+            w.hang-then-tree-y-eq256.ensures.0,
+            w.hang-then-tree-y-eq256.ensures.1,
+            w.hang-then-tree-y-eq256.ensures.2,
+            w.wide-p-then-tree-y-eq256.ensures.0,
             at-y.0,
-          ) (turning_next h (loop-inv u v k place0 h) loop-test-taken (rw at-y.0 at w.if-place-y-eq256.true))
-      | else-place-y-eq256 w ↦
-          λ u v k place0 h. rw (w.par-is, w.order-is, w.place-is, w.m-is)
-          (turning_skip h (loop-inv u v k place0 h) loop-test-taken (rw at-y.0 at w.if-place-y-eq256.false))
+          ) (turning_next h (loop-inv u v k place0 h) loop-test-taken (rw at-y.0 at w.if-tree-y-eq256.true))
+      | else-tree-y-eq256 w ↦
+          λ u v k place0 h. rw (w.tree-is, w.m-is)
+          (turning_skip h (loop-inv u v k place0 h) loop-test-taken (rw at-y.0 at w.if-tree-y-eq256.false))
     ]
 
 pub returns : goal.returns

@@ -3,4 +3,4 @@ use Rattle.mesh.proofs.Sweeping.{Sweeping}
 use Rattle.mesh.proofs.sweep.sweep.Given as goal
 
 abbrev pub invariant-loop-j : goal.invariant-loop-j
-invariant-loop-j l = Sweeping l.n l.par l.order l.over l.j l.most l.base l.climb
+invariant-loop-j l = Sweeping l.n l.tree.par l.tree.order l.bands.over l.j l.swept.most l.swept.base l.swept.climb
