@@ -11,12 +11,11 @@ use Rattle.table.specs.Header.{version_of}
 use Rattle.table.specs.Row.{kind_at}
 use Rattle.net.specs.Count.{Count}
 use Rattle.net.proofs.Counts.{count_none, count_next, count_over}
-use Rattle.tree.specs.Accept.{Accepts}
-use Rattle.tree.specs.declared.Acceptance.TheVariants as acceptance
+use Rattle.tree.specs.Accept.{Accepts, acceptance}
 use Rattle.tree.proofs.Begins.{admitted, accepted_headed}
 use Rattle.writer.specs.WriteRow.{Filler}
-use Rattle.accept.specs.Accept.{FillerRow, FillerBelow, GivesNet}
-use Rattle.accept.specs.declared.AcceptAnswer.TheVariants.{Accepted}
+use Rattle.accept.specs.Accept.{FillerRow, FillerBelow, GivesNet, accept_answer}
+use Rattle.std.specs.Prelude.{Ok}
 
 pub none_looked_at : (s : List ℕ) → Count (FillerBelow s 0) 0
 none_looked_at s = count_none (λ r h. omega (arith, h.0))
@@ -32,10 +31,10 @@ module _ (s : List ℕ) {i k : ℕ} (h : Count (FillerBelow s i) k) where
   no_more n = rw (add-one i) (count_over (FillerRow s) i (λ f. n f.1) h)
 
 -- an accepted table
-module _ (s : List ℕ) {n b : ℕ} (p : Accepts s (acceptance.Accepted n b)) where
+module _ (s : List ℕ) {n b : ℕ} (p : Accepts s (acceptance n b)) where
   pub rows_there : (1 ≤ n) × (12 * n ≤ length s)
   rows_there = let h = accepted_headed s p in let a = admitted s n b p in
       (omega (arith, h.some, a.nodes), omega (arith, h.size, a.nodes))
 
-  pub net_given : {k : ℕ} → Count (FillerBelow s (n - 1)) k → GivesNet s (Accepted n b k)
+  pub net_given : {k : ℕ} → Count (FillerBelow s (n - 1)) k → GivesNet s (accept_answer n b k)
   net_given c = let a = admitted s n b p in (a.nodes, a.bound, rw a.nodes at c)

@@ -17,29 +17,26 @@ use Rattle.net.specs.Graph.{Ring}
 use Rattle.net.specs.Count.{Count}
 use Rattle.net.proofs.Counts.{count_unique, count_none, count_dec}
 use Rattle.net.proofs.RingExactly.{forest_iff}
-use Rattle.tree.specs.Accept.{acceptance_refusal, Accepts}
+use Rattle.tree.specs.Accept.{acceptance_refusal, Accepts, acceptance, Acceptance}
 use Rattle.tree.specs.declared.Refusal.{Refusal}
-use Rattle.tree.specs.declared.Acceptance.{Acceptance}
-use Rattle.tree.specs.declared.Acceptance.TheVariants as acceptance
 use Rattle.tree.proofs.Begins.{begins_map, begins_past, sound_on, refused_on, passed_on}
 use Rattle.tree.proofs.Theorems as tree
 use Rattle.writer.proofs.Theorems.{Wrote, good_row, no_filler}
 use Rattle.accept.proofs.Counting.{net_given}
-use Rattle.accept.specs.Accept.{FillerRow, FillerBelow, accept_refusal, GivesNet, AcceptOf}
-use Rattle.accept.specs.declared.AcceptAnswer.{AcceptAnswer}
-use Rattle.accept.specs.declared.AcceptAnswer.TheVariants.{Accepted, Refused}
+use Rattle.accept.specs.Accept.{AcceptAnswer, FillerRow, FillerBelow, accept_refusal, GivesNet, AcceptOf, accept_answer}
+use Rattle.std.specs.Prelude.{Ok, Err}
 
 -- AS ACCEPTANCE: the answer without its count
 abbrev pub seen : AcceptAnswer → Acceptance
-seen (Accepted n b k) = acceptance.Accepted n b
-seen (Refused w) = acceptance.Refused w
+seen (Ok o) = acceptance o.nodes o.bound
+seen (Err w) = Err w
 
 pub as_acceptance : (s : List ℕ) (x : AcceptAnswer) → AcceptOf s x → Accepts s (seen x)
 as_acceptance s x p = begins_map seen accept_refusal s (λ _. is x) p
   where
-    is : (x : AcceptAnswer) → GivesNet s x → seen x ≡ acceptance.Accepted (nodes_of s) (bound_of s)
-    is (Accepted n b k) g = λ i. acceptance.Accepted (g.0 i) (g.1 i)
-    is (Refused w) g = absurd g
+    is : (x : AcceptAnswer) → GivesNet s x → seen x ≡ acceptance (nodes_of s) (bound_of s)
+    is (Ok o) g = λ i. acceptance (g.0 i) (g.1 i)
+    is (Err w) g = absurd g
 
 pub refused_as_acceptance : (s : List ℕ) (k r g : ℕ) → Accepts s (acceptance_refusal k r g)
     → AcceptOf s (accept_refusal k r g)
@@ -55,8 +52,8 @@ filler? s r = pick (ℕ_discrete (version_of s) 2) (dec_le 24 (kind_at s r)) (de
     pick (yes v) (no l) m = no (λ f. l f.1.0)
     pick (yes v) (yes l) (no m) = no (λ f. m f.1.1)
 
-pub accepted_as_acceptance : (s : List ℕ) (n b : ℕ) → Accepts s (acceptance.Accepted n b)
-    → (k : ℕ) × AcceptOf s (Accepted n b k)
+pub accepted_as_acceptance : (s : List ℕ) (n b : ℕ) → Accepts s (acceptance n b)
+    → (k : ℕ) × AcceptOf s (accept_answer n b k)
 accepted_as_acceptance s n b p =
     let c = count_dec {P = FillerRow s} (n - 1) (filler? s) in
     (c.0, passed_on accept_refusal s n b p (net_given s p c.1))
@@ -70,15 +67,15 @@ ring_exactly s good =
       λ h. let p = e.1 h in (p.0, p.1, refused_as_acceptance s 11 p.0 p.1 p.2),
     )
 
-pub not_refused : {w : Refusal} {n b k : ℕ} → Refused w ≡ Accepted n b k → ⊥
+pub not_refused : {w : Refusal} {n b k : ℕ} → Err w ≡ accept_answer n b k → ⊥
 not_refused e = omega (arith, ap refusals e)
   where
     refusals : AcceptAnswer → ℕ
-    refusals (Accepted n b k) = 0
-    refusals (Refused w) = 1
+    refusals (Ok o) = 0
+    refusals (Err w) = 1
 
 -- THE COUNT, of an accepted table
-pub filler_counted : (s : List ℕ) {n b k : ℕ} → AcceptOf s (Accepted n b k) → Count (FillerBelow s (nodes_of s - 1)) k
+pub filler_counted : (s : List ℕ) {n b k : ℕ} → AcceptOf s (accept_answer n b k) → Count (FillerBelow s (nodes_of s - 1)) k
 filler_counted s p = (begins_past accept_refusal s (λ k r g. not_refused) p).1.2
 
 -- blocked ground and what the score table has are no filler, also where they weigh 0
@@ -87,7 +84,7 @@ other_kinds s r (inl l) f = omega (arith, l, f.1.0)
 other_kinds s r (inr l) f = omega (arith, l, f.1.1)
 
 -- rows of version 1 neither
-pub version_1_none : (s : List ℕ) {n b k : ℕ} → AcceptOf s (Accepted n b k) → version_of s ≡ 1 → k ≡ 0
+pub version_1_none : (s : List ℕ) {n b k : ℕ} → AcceptOf s (accept_answer n b k) → version_of s ≡ 1 → k ≡ 0
 version_1_none s p v = count_unique (filler_counted s p) (count_none (λ r h. omega (arith, v, h.1.0)))
 
 -- row r is one that write row wrote, between nodes below n
@@ -104,7 +101,7 @@ pub record WrittenAt (s : List ℕ) (n r : ℕ) : Type 0 where
 -- WRITTEN ROW BY ROW: of version 2 with a good header, and no ring in it, such a table is accepted, and has no filler
 pub written_accepted : (s : List ℕ) → Headed s → version_of s ≡ 2
     → ((r : ℕ) → r < nodes_of s - 1 → WrittenAt s (nodes_of s) r) → ¬ Ring (first_end s) (second_end s) (nodes_of s - 1)
-    → AcceptOf s (Accepted (nodes_of s) (bound_of s) 0)
+    → AcceptOf s (accept_answer (nodes_of s) (bound_of s) 0)
 unfolding first_end second_end
 written_accepted s h v w o =
     let good = good_table h

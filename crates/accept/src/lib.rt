@@ -7,15 +7,19 @@ ghost use Rattle.net.specs.Count.{Count};
 ghost use Rattle.accept.specs.Accept.{FillerBelow, AcceptOf};
 
 use numbers::two;
-use tree::{Acceptance, Refusal};
+use tree::Refusal;
 use writer::is_filler;
 
-// The node count, the wire bound and the number of filler rows, or why not.
-#[derive(Drop)]
-pub enum AcceptAnswer {
-    Accepted { nodes: u16, bound: u32, filler: u16 },
-    Refused(Refusal),
+// The node count, the wire bound and the number of filler rows.
+#[derive(Clone, Copy)]
+pub struct Accepted {
+    pub nodes: u16,
+    pub bound: u32,
+    pub filler: u16,
 }
+
+// What accept gives.
+pub type AcceptAnswer = Result<Accepted, Refusal>;
 
 fn kind_at(s: &[u8], row: usize) -> u64
     requires { Stands s.now row }
@@ -32,7 +36,7 @@ fn filler_rows(s: &[u8], nodes: u16) -> u16
     if two(s, 3) != 2 {
         return 0;
     }
-    let rows = arrays::wide(nodes) - 1;
+    let rows = usize::from(nodes) - 1;
     let mut filler: u16 = 0;
     for r in 0..rows {
         if is_filler(kind_at(s, r)) {
@@ -45,12 +49,11 @@ fn filler_rows(s: &[u8], nodes: u16) -> u16
 pub fn accept(s: &[u8]) -> AcceptAnswer
     ensures { AcceptOf s.now result }
 {
-    match tree::accept(s) {
-        Acceptance::Refused(why) => AcceptAnswer::Refused(why),
-        Acceptance::Accepted { nodes, bound } => AcceptAnswer::Accepted {
-            nodes,
-            bound,
-            filler: filler_rows(s, nodes),
-        },
-    }
+    let net = tree::accept(s)?;
+    let filler = filler_rows(s, net.nodes);
+    Ok(Accepted {
+        nodes: net.nodes,
+        bound: net.bound,
+        filler,
+    })
 }

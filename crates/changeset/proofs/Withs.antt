@@ -10,8 +10,7 @@ use native.Mathlib.Omega.{arith}
 use lib.ListN.{length, take}
 use Rattle.table.specs.Refuse.{Unless, refused, passed, Only}
 use Rattle.table.specs.Header.{Header, nodes_of}
-use Rattle.table.specs.Opens.{Opens}
-use Rattle.table.specs.declared.Opening.TheVariants.{Opened}
+use Rattle.table.specs.Opens.{Opens, opening}
 use Rattle.table.proofs.Refusals.{past, settled, unless_only, unless_map, by_unless}
 use Rattle.table.proofs.Accepted.{Headed, past_header, header_past, header_rest, header_map, opened}
 use Rattle.table.proofs.Only.{header_only}
@@ -135,7 +134,7 @@ module _ (s c out : List ℕ) where
         (record { table = o.table; changed = o.changed; promise = rw o.promise.bytes at q })
 
 -- `write_in` itself
-module _ (s c : List ℕ) (n b : ℕ) (p : Opens s (Opened n b)) (out : List ℕ) where
+module _ (s c : List ℕ) (n b : ℕ) (p : Opens s (opening n b)) (out : List ℕ) where
   pub opened_lent : 49152 ≤ length out → BufferLent s n out
   opened_lent room =
       let h = opened s n b p in

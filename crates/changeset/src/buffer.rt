@@ -10,7 +10,6 @@ ghost use Rattle.changeset.specs.work.Buffer.{
 };
 
 use crate::entries::{count, formed, number_at};
-use table::Opening;
 
 // The N bytes of a set from place `from` on, put into the buffer from place `at` on. All are read before the first is
 // stored, so that they can be moved as wider words.
@@ -88,11 +87,11 @@ pub fn write_in(table: &[u8], changes: &[u8], out: &mut [u8]) -> u8
     ensures { WritesIn table.now changes.now out.new result }
 {
     match table::open_table(table) {
-        Opening::Refused(why) => why.number,
-        Opening::Opened { nodes, bound: _ } => {
+        Err(why) => why.number,
+        Ok(opened) => {
             if !formed(changes) {
                 33
-            } else if put_rows(table, changes, usize::from(nodes), out) {
+            } else if put_rows(table, changes, usize::from(opened.nodes), out) {
                 0
             } else {
                 34

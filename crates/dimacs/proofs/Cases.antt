@@ -8,11 +8,10 @@ use Rattle.table.proofs.Refusals.{by_unless}
 use Rattle.tree.proofs.Begins.{Told, by_beginning}
 use Rattle.roads.specs.Text.{Said}
 use Rattle.roads.specs.Both.{unread, read}
-use Rattle.dimacs.specs.Read.{read_refusal, MakesTable, Trades, ReadOf}
-use Rattle.dimacs.specs.Write.{Wrote, write_refusal, text_in, GivesTexts, WriteOf}
-use Rattle.dimacs.specs.declared.ReadAnswer.{ReadAnswer}
-use Rattle.dimacs.specs.declared.ReadAnswer.TheVariants.{Table}
-use Rattle.dimacs.specs.declared.WriteAnswer.TheVariants.{Texts}
+use Rattle.dimacs.specs.Read.{ReadAnswer, read_refusal, MakesTable, Trades, ReadOf}
+use Rattle.dimacs.specs.Write.{Wrote, write_refusal, text_in, GivesTexts, WriteOf, both_texts}
+use Rattle.std.specs.Prelude.{Ok}
+use Rattle.std.specs.Prelude.{Ok}
 
 -- a refusal that names no row
 unnamed : (k : ℕ) → Told k 0 0
@@ -20,7 +19,7 @@ unnamed k = record { low = omega arith; few = omega arith; alone = λ _. refl }
 
 module _ (C : ReadAnswer × List ℕ → Type 0) (old : List ℕ)
     (no : (k r g : ℕ) → Told k r g → C (read_refusal old k r g))
-    (given : (t : List ℕ) → length t ≤ length old → C (Table (length t), t ++ drop (length t) old)) where
+    (given : (t : List ℕ) → length t ≤ length old → C (Ok (length t), t ++ drop (length t) old)) where
   made : (a b : Said) (bound : ℕ) (o : ReadAnswer × List ℕ) → MakesTable a b bound old o → C o
   made a b bound o m =
       by_unless C (no 29 0 0 (unnamed 29))
@@ -40,7 +39,7 @@ module _ (C : ReadAnswer × List ℕ → Type 0) (old : List ℕ)
 module _ (C : Wrote → Type 0) (lengths weights : List ℕ)
     (no : (k r g : ℕ) → Told k r g → C (write_refusal lengths weights k r g))
     (given : (l w : List ℕ) → length l ≤ length lengths → length w ≤ length weights
-    → C (Texts (length l) (length w), text_in l lengths, text_in w weights)) where
+    → C (both_texts (length l) (length w), text_in l lengths, text_in w weights)) where
   texts : (s : List ℕ) (n : ℕ) (o : Wrote) → GivesTexts s n lengths weights o → C o
   texts s n o t =
       by_unless C (no 29 0 0 (unnamed 29))

@@ -14,9 +14,7 @@ use Rattle.table.proofs.Refusals.{past, settled}
 use Rattle.table.proofs.Accepted.{Headed, accepted, tested_past}
 use Rattle.net.specs.Net.{first_end, second_end}
 use Rattle.net.specs.work.Net.{Net}
-use Rattle.tree.specs.Accept.{Begins, Accepts}
-use Rattle.tree.specs.declared.Acceptance.{Acceptance}
-use Rattle.tree.specs.declared.Acceptance.TheVariants as acceptance
+use Rattle.tree.specs.Accept.{Begins, Accepts, acceptance, Acceptance}
 use Rattle.tree.proofs.Begins.{begins_past, begins_map, begins_rest}
 use Rattle.numbers.specs.Bytes.{EachByte}
 use Rattle.roads.specs.Text.{Arc}
@@ -25,11 +23,9 @@ use Rattle.arcs.specs.Made.{TableOf}
 use Rattle.arcs.proofs.Back.{NoRepeat, SameNodes, BothArcs, both_arcs, both_paired, both_same, both_table}
 use Rattle.written.specs.Written.{opposite, arcs_written, length_arc, weight_arc}
 use Rattle.written.proofs.Theorems.{said_of, written_read}
-use Rattle.dimacs.specs.Read.{read_refusal, GivesTable, Trades, ReadOf}
-use Rattle.dimacs.specs.Write.{Wrote, write_refusal, GivesTexts, WriteOf}
-use Rattle.dimacs.specs.declared.ReadAnswer.{ReadAnswer}
-use Rattle.dimacs.specs.declared.ReadAnswer.TheVariants as read
-use Rattle.dimacs.specs.declared.WriteAnswer.TheVariants as write
+use Rattle.dimacs.specs.Read.{ReadAnswer, read_refusal, GivesTable, Trades, ReadOf}
+use Rattle.dimacs.specs.Write.{Wrote, write_refusal, GivesTexts, WriteOf, both_texts}
+use Rattle.std.specs.Prelude.{Ok, Err}
 use Rattle.dimacs.proofs.Anew.{made_anew}
 use Rattle.dimacs.proofs.Apart.{rows_apart}
 
@@ -76,7 +72,7 @@ module _ (s : List ℕ) where
         ∙ sym
         (made_anew s all (nodes_of s - 1) (omega (arith, h.some, h.size)) h.letters one h.reserved)
 
-    trades_back : EachByte s → version_of s ≡ 1 → Headed s → Accepts s (acceptance.Accepted (nodes_of s) (bound_of s))
+    trades_back : EachByte s → version_of s ≡ 1 → Headed s → Accepts s (acceptance (nodes_of s) (bound_of s))
         → {old : List ℕ} {o : ReadAnswer × List ℕ} → length s ≤ length old
         → Trades (said_of (nodes_of s) (length_arc s) (nodes_of s - 1))
         (said_of (nodes_of s) (weight_arc s) (nodes_of s - 1))
@@ -89,29 +85,29 @@ module _ (s : List ℕ) where
 
 -- an answer with texts as acceptance's
 accepting : ℕ → ℕ → Wrote → Acceptance
-accepting n b (write.Texts k j, l, w) = acceptance.Accepted n b
-accepting n b (write.Refused why, l, w) = acceptance.Refused why
+accepting n b (Ok o, l, w) = acceptance n b
+accepting n b (Err why, l, w) = Err why
 
 sizes : Wrote → ℕ × ℕ
-sizes (write.Texts k j, l, w) = (k, j)
-sizes (write.Refused why, l, w) = (0, 0)
+sizes (Ok o, l, w) = (o.lengths, o.weights)
+sizes (Err why, l, w) = (0, 0)
 
 is_text : Wrote → ℕ
-is_text (write.Texts k j, l, w) = 1
-is_text (write.Refused why, l, w) = 0
+is_text (Ok o, l, w) = 1
+is_text (Err why, l, w) = 0
 
 module _ (s lengths weights long heavy : List ℕ) {k j : ℕ}
-    (p : WriteOf s lengths weights (write.Texts k j, long, heavy)) where
-  plain : (x r g : ℕ) → write_refusal lengths weights x r g ≡ (write.Texts k j, long, heavy) → ⊥
+    (p : WriteOf s lengths weights (both_texts k j, long, heavy)) where
+  plain : (x r g : ℕ) → write_refusal lengths weights x r g ≡ (both_texts k j, long, heavy) → ⊥
   unfolding is_text
   plain x r g e = omega (arith, ap is_text e)
 
   version : (version_of s ≡ 1) × Begins Wrote (write_refusal lengths weights) s
       (GivesTexts s (nodes_of s) lengths weights)
-      (write.Texts k j, long, heavy)
+      (both_texts k j, long, heavy)
   version = past (plain 3 0 0) (past (plain 2 0 0) (past (plain 1 0 0) p).1).1
 
-  accepts : Accepts s (acceptance.Accepted (nodes_of s) (bound_of s))
+  accepts : Accepts s (acceptance (nodes_of s) (bound_of s))
   unfolding accepting
   accepts =
       begins_map (accepting (nodes_of s) (bound_of s)) (write_refusal lengths weights) s (λ _ _. refl) version.1
@@ -121,7 +117,7 @@ module _ (s lengths weights long heavy : List ℕ) {k j : ℕ}
       (accepted s (nodes_of s) (bound_of s)
       (tested_past (λ x r. write_refusal lengths weights x r 0) s (λ x r _ _. plain x r 0) version.1).0).headed
 
-  given : Net s (nodes_of s) × GivesTexts s (nodes_of s) lengths weights (write.Texts k j, long, heavy)
+  given : Net s (nodes_of s) × GivesTexts s (nodes_of s) lengths weights (both_texts k j, long, heavy)
   given = begins_past (write_refusal lengths weights) s plain version.1
 
   -- the two texts stand in front
@@ -138,7 +134,7 @@ module _ (s lengths weights long heavy : List ℕ) {k j : ℕ}
 
   -- WHAT WAS WRITTEN, READ BACK
   pub round_trip : EachByte s → (old : List ℕ) → length s ≤ length old → (o : ReadAnswer × List ℕ)
-      → ReadOf (take k long) (take j heavy) (bound_of s) old o → o ≡ (read.Table (length s), s ++ drop (length s) old)
+      → ReadOf (take k long) (take j heavy) (bound_of s) old o → o ≡ (Ok (length s), s ++ drop (length s) old)
   round_trip all old room o q =
       let g = given.1 in
       trades_back s given.0 all version.0 headed accepts room

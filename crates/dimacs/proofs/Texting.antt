@@ -15,8 +15,8 @@ use Rattle.text.specs.work.Put.{Put}
 use Rattle.written.specs.work.Rows.{row_arc, RowsThere}
 use Rattle.written.specs.work.Texts.{text_of}
 use Rattle.written.proofs.Spelt.{lengths_written, weights_written}
-use Rattle.dimacs.specs.Write.{Wrote, write_refusal, text_in, GivesTexts, VersionOne}
-use Rattle.dimacs.specs.declared.WriteAnswer.TheVariants.{Texts}
+use Rattle.dimacs.specs.Write.{Wrote, write_refusal, text_in, GivesTexts, VersionOne, both_texts}
+use Rattle.std.specs.Prelude.{Ok}
 
 -- 1, 2, and 3 for any version but 1: how what begins with them hands a refusal on, and goes on
 module _ {A : Type 0} (refuse : ℕ → ℕ → ℕ → A) (s : List ℕ) {rest : A → Type 0} {k : ℕ}
@@ -52,7 +52,7 @@ module _ (s : List ℕ) (n : ℕ) (net : Net s n) (all : EachByte s) (lengths we
 
   gives : {o : Wrote} → Unless Wrote (write_refusal lengths weights 29 0 0)
       ((length long ≤ length lengths) × (length heavy ≤ length weights))
-      (λ x. x ≡ (Texts (length long) (length heavy), text_in long lengths, text_in heavy weights)) o
+      (λ x. x ≡ (both_texts (length long) (length heavy), text_in long lengths, text_in heavy weights)) o
       → GivesTexts s n lengths weights o
   unfolding first_end second_end
   gives u = record {
@@ -75,8 +75,8 @@ module _ (s : List ℕ) (n : ℕ) (net : Net s n) (all : EachByte s) (lengths we
       → b ≡ length heavy
       → Put lengths 0 long l i
       → Put weights 0 heavy w j
-      → GivesTexts s n lengths weights (Texts a b, l, w)
+      → GivesTexts s n lengths weights (both_texts a b, l, w)
   both_given e f p q =
       gives
       (passed (omega (arith, p.after, p.room), omega (arith, q.after, q.room))
-      (λ i. (Texts (e i) (f i), text_in_lem p i, text_in_lem q i)))
+      (λ i. (both_texts (e i) (f i), text_in_lem p i, text_in_lem q i)))

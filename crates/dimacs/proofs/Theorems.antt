@@ -17,15 +17,14 @@ use Rattle.roads.proofs.Only.{says_only}
 use Rattle.arcs.specs.Arcs.{arcs_of, Faulty, Paired, SameBranches, Differ}
 use Rattle.arcs.specs.Made.{TableOf}
 use Rattle.arcs.proofs.Search.{paired_or, faulty_not, same_or, differ_not}
-use Rattle.dimacs.specs.Read.{read_refusal, GivesTable, MakesTable, Trades, ReadOf}
-use Rattle.dimacs.specs.declared.ReadAnswer.{ReadAnswer}
-use Rattle.dimacs.specs.declared.ReadAnswer.TheVariants.{Table, Refused}
+use Rattle.dimacs.specs.Read.{ReadAnswer, read_refusal, GivesTable, MakesTable, Trades, ReadOf}
+use Rattle.std.specs.Prelude.{Ok, Err}
 use Rattle.dimacs.proofs.Only.{trades_only}
 
 -- an outcome's number, 0 where a table is given
 abbrev number_of : ReadAnswer × List ℕ → ℕ
-number_of (Table size, new) = 0
-number_of (Refused why, new) = why.number
+number_of (Ok size, new) = 0
+number_of (Err why, new) = why.number
 
 module _ (old : List ℕ) where
   -- none of 1 to 11, 22 and 23 is 25 or more
@@ -114,8 +113,8 @@ pub record TableRead (lengths weights : List ℕ) (bound : ℕ) (old : List ℕ)
   pub bytes : new ≡ table ++ drop size old
 
 abbrev Comes : List ℕ → List ℕ → ℕ → List ℕ → ReadAnswer × List ℕ → Type 0
-Comes lengths weights bound old (Table size, new) = TableRead lengths weights bound old size new
-Comes lengths weights bound old (Refused why, new) = Unit {0}
+Comes lengths weights bound old (Ok size, new) = TableRead lengths weights bound old size new
+Comes lengths weights bound old (Err why, new) = Unit {0}
 
 comes : {lengths weights : List ℕ} {bound : ℕ} {old : List ℕ} {o : ReadAnswer × List ℕ}
     → ReadOf lengths weights bound old o → Comes lengths weights bound old o
@@ -156,5 +155,5 @@ comes {lengths} {weights} {bound} {old} (read {a} {b} f g u) =
 
 -- A TABLE THAT IS GIVEN IS THAT OF THE TWO TEXTS
 pub table_read : {lengths weights : List ℕ} {bound : ℕ} {old : List ℕ} {size : ℕ} {new : List ℕ}
-    → ReadOf lengths weights bound old (Table size, new) → TableRead lengths weights bound old size new
+    → ReadOf lengths weights bound old (Ok size, new) → TableRead lengths weights bound old size new
 table_read p = comes p

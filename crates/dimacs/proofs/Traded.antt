@@ -19,8 +19,7 @@ use Rattle.arcs.specs.work.Lay.{RowsLaid, RowsMade}
 use Rattle.arcs.proofs.RowBytes.{rows_size}
 use Rattle.arcs.proofs.Making.{laid_table}
 use Rattle.arcs.proofs.Theorems.{rows_half, table_exists, table_size}
-use Rattle.dimacs.specs.Read.{read_refusal, GivesTable, ReadOf}
-use Rattle.dimacs.specs.declared.ReadAnswer.{ReadAnswer}
+use Rattle.dimacs.specs.Read.{ReadAnswer, read_refusal, GivesTable, ReadOf}
 use Rattle.dimacs.proofs.Many.{many_refused}
 use Rattle.dimacs.proofs.Trading.{Alike, alike, unlike, goes_on, no_room, has_room}
 

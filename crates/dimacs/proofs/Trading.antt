@@ -11,8 +11,7 @@ use Rattle.roads.specs.Text.{Said}
 use Rattle.arcs.specs.Arcs.{arcs_of, Paired, SameBranches}
 use Rattle.arcs.specs.Made.{TableOf}
 use Rattle.arcs.specs.work.Look.{Verdict}
-use Rattle.dimacs.specs.Read.{read_refusal, GivesTable, MakesTable, Trades}
-use Rattle.dimacs.specs.declared.ReadAnswer.{ReadAnswer}
+use Rattle.dimacs.specs.Read.{ReadAnswer, read_refusal, GivesTable, MakesTable, Trades}
 
 module _ (a b : Said) where
   -- 27, 28, or as the rest says

@@ -1,18 +1,25 @@
 -- Writing: the two road-graph texts of a table of version 1.
-use Rattle.std.specs.Prelude.{ℕ, ◌-◌, ◌≤◌, ◌≡◌, List, ◌++◌, length, drop}
+use Rattle.std.specs.Prelude.{ℕ, ◌-◌, ◌≤◌, ◌≡◌, List, ◌++◌, length, drop, Result, Ok, Err}
 use Rattle.table.specs.Refuse.{Unless}
 use Rattle.table.specs.Header.{Lettered, version_of, nodes_of}
 use Rattle.tree.specs.Accept.{Begins}
 use Rattle.written.specs.Written.{Written, length_arc, weight_arc}
-use Rattle.dimacs.specs.declared.WriteAnswer.{WriteAnswer}
-use Rattle.dimacs.specs.declared.WriteAnswer.TheVariants.{Texts, Refused}
+use Rattle.tree.specs.declared.Refusal.{Refusal}
+use Rattle.dimacs.specs.declared.Texts.{Texts}
+
+-- the sizes of the two texts, or why not
+abbrev pub WriteAnswer : Type 0
+WriteAnswer = Result Texts Refusal
+
+abbrev pub both_texts : ℕ → ℕ → WriteAnswer
+both_texts k j = Ok (record { lengths = k; weights = j })
 
 -- the answer, and the two lent memories after
 abbrev pub Wrote : Type 0
 Wrote = WriteAnswer × List ℕ × List ℕ
 
 abbrev pub write_refused : ℕ → ℕ → ℕ → WriteAnswer
-write_refused k r g = Refused (record { number = k; row = r; ring = g })
+write_refused k r g = Err (record { number = k; row = r; ring = g })
 
 -- a refusal leaves both as they were
 abbrev pub write_refusal : List ℕ → List ℕ → ℕ → ℕ → ℕ → Wrote
@@ -31,7 +38,7 @@ pub record GivesTexts (s : List ℕ) (n : ℕ) (lengths weights : List ℕ) (o :
   pub heavy_is : Written 2147483647 2147483648 n (weight_arc s) (n - 1) heavy
   pub outcome : Unless Wrote (write_refusal lengths weights 29 0 0)
       ((length long ≤ length lengths) × (length heavy ≤ length weights))
-      (λ x. x ≡ (Texts (length long) (length heavy), text_in long lengths, text_in heavy weights)) o
+      (λ x. x ≡ (both_texts (length long) (length heavy), text_in long lengths, text_in heavy weights)) o
 
 -- 1, 2, and 3 for any other version than 1; and then as the rest says
 abbrev pub VersionOne : (A : Type 0) → (ℕ → ℕ → ℕ → A) → List ℕ → (A → Type 0) → A → Type 0

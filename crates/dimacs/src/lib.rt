@@ -13,18 +13,17 @@ use tree::Refusal;
 pub use writing::{version_one, write};
 
 // The size of the table made, or why not.
-#[derive(Drop)]
-pub enum ReadAnswer {
-    Table { size: usize },
-    Refused(Refusal),
+pub type ReadAnswer = Result<usize, Refusal>;
+
+// The sizes of the two texts.
+#[derive(Clone, Copy)]
+pub struct Texts {
+    pub lengths: usize,
+    pub weights: usize,
 }
 
-// The sizes of the two texts, or why not.
-#[derive(Drop)]
-pub enum WriteAnswer {
-    Texts { lengths: usize, weights: usize },
-    Refused(Refusal),
-}
+// The same, or why not.
+pub type WriteAnswer = Result<Texts, Refusal>;
 
 // A refusal that names no row.
 fn rowless(number: u8) -> Refusal

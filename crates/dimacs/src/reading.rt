@@ -8,7 +8,6 @@ ghost use Rattle.dimacs.specs.Read.{read_refusal, GivesTable, ReadOf};
 use crate::header::put_header;
 use crate::{ReadAnswer, rowless};
 use roads::Texts;
-use tree::Acceptance;
 
 // Whether there is no room for the table of so many arcs, two a branch: 12 + 6 * arcs bytes, which is never computed
 // where it would not fit.
@@ -31,14 +30,8 @@ fn give(made: &[u8], table: &mut [u8]) -> ReadAnswer
     ensures { Begins _ (read_refusal table.old) made.now
         (GivesTable table.old made.now) (result, table.new) }
 {
-    match tree::accept(made) {
-        Acceptance::Refused(why) => ReadAnswer::Refused(why),
-        Acceptance::Accepted { nodes: _, bound: _ } => {
-            ReadAnswer::Table {
-                size: text::put_word(table, 0, made),
-            }
-        }
-    }
+    tree::accept(made)?;
+    Ok(text::put_word(table, 0, made))
 }
 
 // Two texts that agree: the header, then 27 and 28 and the rows, 29, and the table.
@@ -56,13 +49,13 @@ fn trade(lengths: &[u8], weights: &[u8], texts: Texts, bound: u32, table: &mut [
     let mut made: [u8; 49152] = [0; 49152];
     put_header(&mut made, nodes, bound);
     if let Err(number) = arcs::rows(lengths, i, weights, j, nodes, arcs, &mut made) {
-        return ReadAnswer::Refused(rowless(number));
+        return Err(rowless(number));
     }
     if no_room(table.len(), arcs) {
-        return ReadAnswer::Refused(rowless(29));
+        return Err(rowless(29));
     }
     if 8190 < arcs {
-        return ReadAnswer::Refused(rowless(too_many(nodes)));
+        return Err(rowless(too_many(nodes)));
     }
     give(&made[..12 + 6 * arcs], table)
 }
@@ -74,7 +67,7 @@ pub fn read(lengths: &[u8], weights: &[u8], bound: u32, table: &mut [u8]) -> Rea
         (result, table.new) }
 {
     match roads::both(lengths, weights) {
-        Err(number) => ReadAnswer::Refused(rowless(number)),
+        Err(number) => Err(rowless(number)),
         Ok(texts) => trade(lengths, weights, texts, bound, table),
     }
 }

@@ -4,9 +4,8 @@ ghost use Rattle.std.specs.Prelude.{◌≡◌};
 ghost use Rattle.net.specs.work.Net.{Net};
 ghost use Rattle.dimacs.specs.Write.{GivesTexts, VersionOne, WriteOf};
 
-use crate::{WriteAnswer, rowless};
+use crate::{Texts, WriteAnswer, rowless};
 use roads::{LENGTH_TOP, WEIGHT_TOP};
-use tree::Acceptance;
 use written::{put_text, text_size};
 
 // Where a row has its length and its weight.
@@ -39,14 +38,14 @@ fn write_net(s: &[u8], nodes: u16, lengths: &mut [u8], weights: &mut [u8]) -> Wr
     let a = text_size(s, nodes, LENGTH_TOP, LENGTH);
     let b = text_size(s, nodes, WEIGHT_TOP, WEIGHT);
     if lengths.len() < a || weights.len() < b {
-        return WriteAnswer::Refused(rowless(29));
+        return Err(rowless(29));
     }
     put_text(lengths, s, nodes, LENGTH_TOP, LENGTH);
     put_text(weights, s, nodes, WEIGHT_TOP, WEIGHT);
-    WriteAnswer::Texts {
+    Ok(Texts {
         lengths: a,
         weights: b,
-    }
+    })
 }
 
 // A table of version 1 as a text with lengths and one with weights, into the lent bytes.
@@ -56,10 +55,8 @@ pub fn write(s: &[u8], lengths: &mut [u8], weights: &mut [u8]) -> WriteAnswer
 {
     let k = version_one(s);
     if k != 0 {
-        return WriteAnswer::Refused(rowless(k));
+        return Err(rowless(k));
     }
-    match tree::accept(s) {
-        Acceptance::Refused(why) => WriteAnswer::Refused(why),
-        Acceptance::Accepted { nodes, bound: _ } => write_net(s, nodes, lengths, weights),
-    }
+    let net = tree::accept(s)?;
+    write_net(s, net.nodes, lengths, weights)
 }

@@ -18,9 +18,8 @@ use Rattle.table.specs.Examine.{RowNumber}
 use Rattle.table.specs.declared.Row.{Row}
 use Rattle.table.proofs.Refusals.{past}
 use Rattle.numbers.specs.Bytes.{bytes}
-use Rattle.writer.specs.WriteRow.{Filler, cell_row, WritesRow}
-use Rattle.writer.specs.declared.RowAnswer.{RowAnswer}
-use Rattle.writer.specs.declared.RowAnswer.TheVariants.{Written, Refused}
+use Rattle.writer.specs.WriteRow.{RowAnswer, Filler, cell_row, WritesRow}
+use Rattle.std.specs.Prelude.{Ok, Err}
 
 -- what a call that is not refused was given, and the bytes it left
 pub record Wrote (a b wire kind count : ℕ) (after : List ℕ) : Type 0 where
@@ -34,16 +33,16 @@ pub record Wrote (a b wire kind count : ℕ) (after : List ℕ) : Type 0 where
   pub bytes : after ≡ cell_row a b wire kind count
 
 -- a written row is no refusal
-plain : {l after : List ℕ} {k r : ℕ} → ◌≡◌ {A = RowAnswer × List ℕ} (Refused (record { number = k; row = r }), l)
-    (Written, after) → ⊥
+plain : {l after : List ℕ} {k r : ℕ} → ◌≡◌ {A = RowAnswer × List ℕ} (Err (record { number = k; row = r }), l)
+    (Ok tt, after) → ⊥
 plain e = let f : ◌≡◌ {A = ℕ} 1 0 = ap (λ x. refusals x.0) e in omega (arith, f)
   where
     refusals : RowAnswer → ℕ
-    refusals Written = 0
-    refusals (Refused w) = 1
+    refusals (Ok one) = 0
+    refusals (Err w) = 1
 
 pub wrote : {a b wire kind count : ℕ} {before after : List ℕ}
-    → WritesRow a b wire kind count before (Written, after) → Wrote a b wire kind count after
+    → WritesRow a b wire kind count before (Ok tt, after) → Wrote a b wire kind count after
 wrote p =
     let e = past plain p in
     let f = past plain e.1 in

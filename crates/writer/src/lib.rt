@@ -5,17 +5,12 @@
 ghost use Rattle.std.specs.Prelude.{◌≡◌, length};
 ghost use Rattle.limits.specs.work.Fits.{Decides};
 ghost use Rattle.writer.specs.WriteRow.{Filler, cell_row, WritesRow};
-ghost use Rattle.writer.specs.declared.RowAnswer.TheVariants.{Refused};
 
 use numbers::put_bytes;
 use table::Refusal;
 
 // The row is written, or why not.
-#[derive(Drop)]
-pub enum RowAnswer {
-    Written,
-    Refused(Refusal),
-}
+pub type RowAnswer = Result<(), Refusal>;
 
 // Between crates: whether a kind is filler, which this crate refuses and acceptance counts.
 pub fn is_filler(kind: u64) -> bool
@@ -36,38 +31,31 @@ fn put_row(a: u16, b: u16, wire: u32, kind: u16, count: u16, row: &mut [u8])
     put_bytes(row, 10, u64::from(count), 2);
 }
 
-// Every refusal names row 0.
-fn refused(number: u8) -> RowAnswer
-    ensures { result ≡ Refused (record { number = number; row = 0 }) }
-{
-    RowAnswer::Refused(Refusal { number, row: 0 })
-}
-
 // The length is called wire here: in a contract length is that of the lent bytes.
 pub fn write_row(a: u16, b: u16, wire: u32, kind: u16, count: u16, row: &mut [u8]) -> RowAnswer
     ensures { WritesRow a b wire kind count row.old (result, row.new) }
 {
     if 4095 < a || 4095 < b {
-        return refused(7);
+        return Err(Refusal { number: 7, row: 0 });
     }
     if a == b {
-        return refused(8);
+        return Err(Refusal { number: 8, row: 0 });
     }
     if 1000000 < wire {
-        return refused(9);
+        return Err(Refusal { number: 9, row: 0 });
     }
     if 64 <= kind {
-        return refused(22);
+        return Err(Refusal { number: 22, row: 0 });
     }
     if is_filler(u64::from(kind)) {
-        return refused(35);
+        return Err(Refusal { number: 35, row: 0 });
     }
     if 20000 < count {
-        return refused(23);
+        return Err(Refusal { number: 23, row: 0 });
     }
     if row.len() != 12 {
-        return refused(39);
+        return Err(Refusal { number: 39, row: 0 });
     }
     put_row(a, b, wire, kind, count, row);
-    RowAnswer::Written
+    Ok(())
 }

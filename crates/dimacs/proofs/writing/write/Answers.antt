@@ -1,4 +1,5 @@
 -- `write`: 1 to 3 as `version_one` says, then a refused acceptance is handed on, and an accepted table goes on to 29.
+use Rattle.std.proofs.lemmas.Result.{err_from_is_err_and}
 use Rattle.tree.proofs.Begins.{admitted, refused_on, passed_on}
 use Rattle.dimacs.specs.Write.{write_refusal}
 use Rattle.dimacs.proofs.Texting.{version_refused, version_on}
@@ -12,17 +13,19 @@ returns-then-k-ne0 c =
     c.version_one-k.ensures c.if-k-ne0.true)
 
 pub write_net-requires : goal.write_net-requires
-write_net-requires c = (admitted c.args.s.now _ _ c.in-Accepted.ensures).net
+write_net-requires c = (admitted c.args.s.now _ _ c.in_ok-net.ensures).net
 
-pub returns-in-Refused : goal.returns-in-Refused
-returns-in-Refused c =
-    let args = c.args in
-    version_on (write_refusal args.lengths.now args.weights.now) args.s.now c.version_one-k.ensures c.if-k-ne0.false
-    (refused_on (write_refusal args.lengths.now args.weights.now) args.s.now _ c.in-Refused.ensures)
+pub returns-in_err-net : goal.returns-in_err-net
+returns-in_err-net c =
+    let refuse = write_refusal c.args.lengths.now c.args.weights.now in
+    let p = err_from_is_err_and c.from_residual.result c.from_residual.ensures.1 in
+    rw (p.1, p.2)
+    (version_on refuse c.args.s.now c.version_one-k.ensures c.if-k-ne0.false
+    (refused_on refuse c.args.s.now _ c.in_err-net.ensures))
 
-pub returns-in-Accepted : goal.returns-in-Accepted
-returns-in-Accepted c =
-    let args = c.args in
-    version_on (write_refusal args.lengths.now args.weights.now) args.s.now c.version_one-k.ensures c.if-k-ne0.false
-    (passed_on (write_refusal args.lengths.now args.weights.now) args.s.now _ _ c.in-Accepted.ensures
-    (rw (admitted args.s.now _ _ c.in-Accepted.ensures).nodes at c.write_net.ensures))
+pub returns : goal.returns
+returns c =
+    let refuse = write_refusal c.args.lengths.now c.args.weights.now in
+    version_on refuse c.args.s.now c.version_one-k.ensures c.if-k-ne0.false
+    (passed_on refuse c.args.s.now _ _ c.in_ok-net.ensures
+    (rw (admitted c.args.s.now _ _ c.in_ok-net.ensures).nodes at c.write_net.ensures))
