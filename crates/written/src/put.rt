@@ -7,11 +7,11 @@ ghost use Rattle.written.specs.work.Texts.{field_text, number_text, arc_text, ro
 
 use text::{put_byte, put_number, put_word};
 
-const LINE_END: u8 = 10;
+const LINE_END: u8 = b'\n';
 
-const SPACE: u8 = 32;
+const SPACE: u8 = b' ';
 
-const MINUS: u8 = 45;
+const MINUS: u8 = b'-';
 
 fn put_field(out: &mut [u8], at: usize, x: u64, end: u8) -> usize
     requires { at + length (field_text x end) ≤ length out.old }
@@ -64,10 +64,8 @@ fn put_rows(out: &mut [u8], at: usize, s: &[u8], rows: usize, top: u64, place: u
         result }
 {
     let mut p = at;
-    let mut r: usize = 0;
-    while r < rows {
+    for r in 0..rows {
         p = put_row(out, p, s, r, top, place);
-        r += 1;
     }
     p
 }
@@ -89,6 +87,6 @@ pub fn put_text(out: &mut [u8], s: &[u8], nodes: u16, top: u64, place: usize) ->
         out.new result }
 {
     let rows = arrays::wide(nodes) - 1;
-    let p = put_head(out, nodes as u64, 2 * (rows as u64));
+    let p = put_head(out, u64::from(nodes), 2 * (rows as u64));
     put_rows(out, p, s, rows, top, place)
 }

@@ -32,10 +32,8 @@ fn rows_size(s: &[u8], rows: usize, top: u64, place: usize) -> usize
     ensures { (result ≡ length (rows_text top (row_arc place s.now) rows)) × (result ≤ 540540) }
 {
     let mut k: usize = 0;
-    let mut r: usize = 0;
-    while r < rows {
+    for r in 0..rows {
         k += row_size(s, r, top, place);
-        r += 1;
     }
     k
 }
@@ -45,7 +43,7 @@ pub fn text_size(s: &[u8], nodes: u16, top: u64, place: usize) -> usize
     ensures { result ≡ length (text_of top nodes (row_arc place s.now) (nodes - 1)) }
 {
     let rows = arrays::wide(nodes) - 1;
-    let n = digits_of(nodes as u64);
+    let n = digits_of(u64::from(nodes));
     let m = digits_of(2 * (rows as u64));
     7 + n + m + rows_size(s, rows, top, place)
 }

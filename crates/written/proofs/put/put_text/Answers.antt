@@ -10,24 +10,21 @@ use Rattle.written.proofs.put.put_text.Goals as goal
 pub put_head-p-requires : goal.put_head-p-requires
 put_head-p-requires c =
     let args = c.args in
-    let e = c.wide-rows.ensures.0 in
-    rw e (omega (arith, text_length args.top (row_arc args.place args.s.now) args.nodes (args.nodes - 1)))
+    rw (c.wide-rows.ensures.0, c.from.ensures)
+    (omega (arith, text_length args.top (row_arc args.place args.s.now) args.nodes (args.nodes - 1)))
 
 pub put_rows-requires : goal.put_rows-requires
 put_rows-requires c =
-    let put-head-ensures = c.put_head-p.ensures in
     let args = c.args in
-    let pre = c.requires in
     let e = c.wide-rows.ensures.0 in
-    let p = rw e at put-head-ensures in
+    let p = rw (e, c.from.ensures) at c.put_head-p.ensures in
     rw e (
       omega (arith, text_length args.top (row_arc args.place args.s.now) args.nodes (args.nodes - 1)),
-      pre.2,
+      c.requires.2,
     )
 
 pub returns : goal.returns
 unfolding text_of
 returns c =
-    let put-head-ensures = c.put_head-p.ensures in
     let e = c.wide-rows.ensures.0 in
-    put_then (rw e at put-head-ensures) (rw e at c.put_rows.ensures)
+    put_then (rw (e, c.from.ensures) at c.put_head-p.ensures) (rw e at c.put_rows.ensures)

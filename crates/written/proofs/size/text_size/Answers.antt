@@ -16,6 +16,7 @@ pub returns : goal.returns
 returns c =
     let args = c.args in
     let e = c.wide-rows.ensures.0 in
+    let n = rw c.from.ensures at c.digits_of-n.ensures.0 in
     let d = rw e at c.digits_of-m.ensures.0 in
     let k = rw e at c.rows_size.ensures.0 in
     omega (
