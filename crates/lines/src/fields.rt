@@ -38,30 +38,36 @@ pub(crate) fn two_fields(out: &mut [u8], word: &[u8], x: u64, other: &[u8], y: u
     field(out, a, other, y)
 }
 
+// What such a line tells, the weight by its 64 bits.
+#[derive(Clone, Copy)]
+pub(crate) struct Row {
+    pub(crate) low: u64,
+    pub(crate) high: u64,
+    pub(crate) len: u64,
+    pub(crate) bits: u64,
+}
+
 // A line of two nodes, a length and a weight, a space between the nodes.
 pub(crate) fn four_fields(
     out: &mut [u8],
     at: usize,
     word: &[u8],
-    low: u64,
-    high: u64,
     third: &[u8],
-    len: u64,
     fourth: &[u8],
-    bits: u64,
+    row: Row,
 ) -> usize
     requires { at + length word.now + length third.now + length fourth.now + 82 ≤ length out.old }
     ensures { Put out.old at
-        (word.now ++ decimal low
-        ++ (32 ∷ [] ++ decimal high)
-        ++ (third.now ++ decimal len)
-        ++ (fourth.now ++ signed (to_z w64 bits))
+        (word.now ++ decimal row.low
+        ++ (32 ∷ [] ++ decimal row.high)
+        ++ (third.now ++ decimal row.len)
+        ++ (fourth.now ++ signed (to_z w64 row.bits))
         ++ 10 ∷ []) out.new result
         × (result ≤ at + length word.now + length third.now + length fourth.now + 82) }
 {
-    let a = field(out, at, word, low);
-    let b = field(out, a, b" ", high);
-    let c = field(out, b, third, len);
-    let d = weight(out, c, fourth, bits);
+    let a = field(out, at, word, row.low);
+    let b = field(out, a, b" ", row.high);
+    let c = field(out, b, third, row.len);
+    let d = weight(out, c, fourth, row.bits);
     text::put_byte(out, d, LINE_END)
 }

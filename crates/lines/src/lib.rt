@@ -12,7 +12,7 @@ ghost use Rattle.pages.specs.Bytes.{entry_at, entries};
 ghost use Rattle.text.specs.work.Put.{Put};
 ghost use Rattle.lines.specs.Lines.{ring_text, refused_text, net_text, best_text, pair_text, pairs_text, total_text};
 
-use fields::{LINE_END, field, four_fields, two_fields};
+use fields::{LINE_END, Row, field, four_fields, two_fields};
 use numbers::{eight, four, two};
 
 // ` ring 2`, for 11 alone
@@ -45,23 +45,13 @@ fn net(out: &mut [u8], nodes: u64, bound: u64) -> usize
     text::put_byte(out, a, LINE_END)
 }
 
-// `best 1 3 length 6 weight 7`, the weight by its 64 bits
-fn best(out: &mut [u8], at: usize, low: u64, high: u64, len: u64, bits: u64) -> usize
+// `best 1 3 length 6 weight 7`
+fn best(out: &mut [u8], at: usize, row: Row) -> usize
     requires { at + 128 ≤ length out.old }
-    ensures { Put out.old at (best_text (entry low high len (to_z w64 bits))) out.new result
+    ensures { Put out.old at (best_text (entry row.low row.high row.len (to_z w64 row.bits))) out.new result
         × (result ≤ at + 128) }
 {
-    four_fields(
-        out,
-        at,
-        b"best ",
-        low,
-        high,
-        b" length ",
-        len,
-        b" weight ",
-        bits,
-    )
+    four_fields(out, at, b"best ", b" length ", b" weight ", row)
 }
 
 // The first two lines.
@@ -80,7 +70,13 @@ pub fn top(
         × (result ≤ 256) }
 {
     let a = net(out, nodes, bound);
-    best(out, a, low, high, len, bits)
+    let row = Row {
+        low,
+        high,
+        len,
+        bits,
+    };
+    best(out, a, row)
 }
 
 // `pair 0 2 7 7`, of the row that begins at place i
@@ -93,7 +89,13 @@ fn pair(out: &mut [u8], at: usize, rows: &[u8], i: usize) -> usize
     let high = two(rows, i + 2);
     let len = four(rows, i + 4);
     let bits = eight(rows, i + 8);
-    four_fields(out, at, b"pair ", low, high, b" ", len, b" ", bits)
+    let row = Row {
+        low,
+        high,
+        len,
+        bits,
+    };
+    four_fields(out, at, b"pair ", b" ", b" ", row)
 }
 
 // The lines of the rows from one on, up to another: 96 bytes at most for each.
