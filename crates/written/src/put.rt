@@ -5,6 +5,7 @@ ghost use Rattle.roads.specs.work.Line.{arc_of};
 ghost use Rattle.written.specs.work.Rows.{row_arc, RowsThere};
 ghost use Rattle.written.specs.work.Texts.{field_text, number_text, arc_text, row_text, rows_text, head_text, text_of};
 
+use crate::size::Rows;
 use text::{put_byte, put_number, put_word};
 
 const LINE_END: u8 = b'\n';
@@ -44,28 +45,27 @@ fn put_arc(out: &mut [u8], at: usize, from: u64, to: u64, b: u64, top: u64) -> u
 }
 
 // A row's arc and its opposite.
-fn put_row(out: &mut [u8], at: usize, s: &[u8], r: usize, top: u64, place: usize) -> usize
-    requires { (at + length (row_text top (row_arc place s.now r)) ≤ length out.old)
-        × (24 + 12 * r ≤ length s.now) × (place ≤ 8) }
-    ensures { Put out.old at (row_text top (row_arc place s.now r)) out.new result }
+fn put_row(out: &mut [u8], at: usize, t: Rows, r: usize) -> usize
+    requires { (at + length (row_text t.top (row_arc t.place t.table.now r)) ≤ length out.old)
+        × (24 + 12 * r ≤ length t.table.now) × (t.place ≤ 8) }
+    ensures { Put out.old at (row_text t.entry.top (row_arc t.entry.place t.entry.table.now r)) out.new result }
 {
     let i = 12 + 12 * r;
-    let from = numbers::two(s, i) + 1;
-    let to = numbers::two(s, i + 2) + 1;
-    let b = numbers::four(s, i + place);
-    let p = put_arc(out, at, from, to, b, top);
-    put_arc(out, p, to, from, b, top)
+    let from = numbers::two(t.table, i) + 1;
+    let to = numbers::two(t.table, i + 2) + 1;
+    let b = numbers::four(t.table, i + t.place);
+    let p = put_arc(out, at, from, to, b, t.top);
+    put_arc(out, p, to, from, b, t.top)
 }
 
-fn put_rows(out: &mut [u8], at: usize, s: &[u8], rows: usize, top: u64, place: usize) -> usize
-    requires { (at + length (rows_text top (row_arc place s.now) rows) ≤ length out.old)
-        × RowsThere s.now rows place }
-    ensures { Put out.old at (rows_text top (row_arc place s.now) rows) out.new
-        result }
+fn put_rows(out: &mut [u8], at: usize, t: Rows, rows: usize) -> usize
+    requires { (at + length (rows_text t.top (row_arc t.place t.table.now) rows) ≤ length out.old)
+        × RowsThere t.table.now rows t.place }
+    ensures { Put out.old at (rows_text t.entry.top (row_arc t.entry.place t.entry.table.now) rows) out.new result }
 {
     let mut p = at;
     for r in 0..rows {
-        p = put_row(out, p, s, r, top, place);
+        p = put_row(out, p, t, r);
     }
     p
 }
@@ -88,5 +88,10 @@ pub fn put_text(out: &mut [u8], s: &[u8], nodes: u16, top: u64, place: usize) ->
 {
     let rows = arrays::wide(nodes) - 1;
     let p = put_head(out, u64::from(nodes), 2 * (rows as u64));
-    put_rows(out, p, s, rows, top, place)
+    let t = Rows {
+        table: s,
+        top,
+        place,
+    };
+    put_rows(out, p, t, rows)
 }

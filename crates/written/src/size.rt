@@ -5,6 +5,14 @@ ghost use Rattle.written.specs.work.Texts.{number_text, row_text, rows_text, tex
 
 use text::digits_of;
 
+// A table's rows as one text has them: of each the number at `place`, negative beyond `top`.
+#[derive(Clone, Copy)]
+pub(crate) struct Rows<'a> {
+    pub(crate) table: &'a [u8],
+    pub(crate) top: u64,
+    pub(crate) place: usize,
+}
+
 fn number_size(b: u64, top: u64) -> usize
     requires { b < 4294967296 }
     ensures { (result ≡ length (number_text top b)) × (result ≤ 21) }
@@ -16,24 +24,25 @@ fn number_size(b: u64, top: u64) -> usize
 }
 
 // A row's two lines, which are of one size.
-fn row_size(s: &[u8], r: usize, top: u64, place: usize) -> usize
-    requires { (24 + 12 * r ≤ length s.now) × (place ≤ 8) }
-    ensures { (result ≡ length (row_text top (row_arc place s.now r))) × (result ≤ 132) }
+fn row_size(t: Rows, r: usize) -> usize
+    requires { (24 + 12 * r ≤ length t.table.now) × (t.place ≤ 8) }
+    ensures { (result ≡ length (row_text t.entry.top (row_arc t.entry.place t.entry.table.now r))) × (result ≤ 132) }
 {
     let i = 12 + 12 * r;
-    let from = digits_of(numbers::two(s, i) + 1);
-    let to = digits_of(numbers::two(s, i + 2) + 1);
-    let number = number_size(numbers::four(s, i + place), top);
+    let from = digits_of(numbers::two(t.table, i) + 1);
+    let to = digits_of(numbers::two(t.table, i + 2) + 1);
+    let number = number_size(numbers::four(t.table, i + t.place), t.top);
     2 * (5 + from + to + number)
 }
 
-fn rows_size(s: &[u8], rows: usize, top: u64, place: usize) -> usize
-    requires { RowsThere s.now rows place }
-    ensures { (result ≡ length (rows_text top (row_arc place s.now) rows)) × (result ≤ 540540) }
+fn rows_size(t: Rows, rows: usize) -> usize
+    requires { RowsThere t.table.now rows t.place }
+    ensures { (result ≡ length (rows_text t.entry.top (row_arc t.entry.place t.entry.table.now) rows))
+        × (result ≤ 540540) }
 {
     let mut k: usize = 0;
     for r in 0..rows {
-        k += row_size(s, r, top, place);
+        k += row_size(t, r);
     }
     k
 }
@@ -45,5 +54,10 @@ pub fn text_size(s: &[u8], nodes: u16, top: u64, place: usize) -> usize
     let rows = arrays::wide(nodes) - 1;
     let n = digits_of(u64::from(nodes));
     let m = digits_of(2 * (rows as u64));
-    7 + n + m + rows_size(s, rows, top, place)
+    let t = Rows {
+        table: s,
+        top,
+        place,
+    };
+    7 + n + m + rows_size(t, rows)
 }

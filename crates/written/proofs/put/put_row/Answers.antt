@@ -14,8 +14,8 @@ put_arc-p-requires c =
     let args = c.args in (
       omega (
         arith,
-        row_parts args.s.now args.r args.place two-ensures.0 c.two-to.ensures.0
-            four-ensures.0 refl refl args.top,
+        row_parts args.t.table.now args.r args.t.place two-ensures.0 c.two-to.ensures.0
+            four-ensures.0 refl refl args.t.top,
       ),
       four-ensures.1,
     )
@@ -28,9 +28,9 @@ put_arc-requires c =
     let args = c.args in (
       omega (
         arith,
-        row_parts args.s.now args.r args.place two-ensures.0 two2-ensures.0 four-ensures.0 refl refl
-            args.top,
-        arc_turned args.top (arc_of (c.two-from.result + 1) (c.two-to.result + 1) c.four-b.result),
+        row_parts args.t.table.now args.r args.t.place two-ensures.0 two2-ensures.0 four-ensures.0 refl refl
+            args.t.top,
+        arc_turned args.t.top (arc_of (c.two-from.result + 1) (c.two-to.result + 1) c.four-b.result),
       ),
       four-ensures.1,
     )
@@ -42,5 +42,5 @@ returns c =
     let two2-ensures = c.two-to.ensures in
     let two-ensures = c.two-from.ensures in
     let args = c.args in
-    row_put args.s.now args.r args.place two-ensures.0 two2-ensures.0 four-ensures.0 refl refl
-    args.top put-arc-ensures c.put_arc.ensures
+    row_put args.t.table.now args.r args.t.place two-ensures.0 two2-ensures.0 four-ensures.0 refl refl
+    args.t.top put-arc-ensures c.put_arc.ensures

@@ -3,4 +3,4 @@ use Rattle.written.proofs.Rows.{Storing}
 use Rattle.written.proofs.put.put_rows.Given as goal
 
 abbrev pub invariant-loop-r : goal.invariant-loop-r
-invariant-loop-r l = Storing l.initial.out l.at l.s l.rows l.top l.place l.out l.p l.r
+invariant-loop-r l = Storing l.initial.out l.at l.t.table.now l.rows l.t.top l.t.place l.out l.p l.r

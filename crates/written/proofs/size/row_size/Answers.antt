@@ -10,7 +10,7 @@ returns c =
     let digits-of-ensures = c.digits_of-from.ensures in
     let two-ensures = c.two.ensures in
     let args = c.args in (
-      row_sized args.s.now args.r args.place two-ensures.0 two2-ensures.0 c.four.ensures.0
+      row_sized args.t.table.now args.r args.t.place two-ensures.0 two2-ensures.0 c.four.ensures.0
           _ digits-of-ensures.0 c.digits_of-to.ensures.0 c.number_size-number.ensures.0 refl,
       omega arith,
     )
