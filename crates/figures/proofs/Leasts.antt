@@ -5,7 +5,7 @@ use mathlib.Core.Logic.{◌≢◌}
 use mathlib.Core.List.{List}
 use native.Mathlib.Omega.{arith}
 use native.Mathlib.Decide.{dec_lt, dec_le, ℕ_discrete}
-use lib.ListN.{length, set, length-set}
+use lib.ListN.{set, length-set}
 use lib.Seq.{get_or-set_same, get_or-set_other}
 use Rattle.arrays.specs.At.{at}
 use Rattle.layout.specs.work.Spotted.{LeastOf}
@@ -92,16 +92,6 @@ least_only p q =
     omega (arith, p.all t.0 t.1 t.2, t.3, q.all s.0 s.1 s.2, s.3)
 
 module _ {above : List ℕ} where
-  -- nothing in a table yet
-  pub tails_none : {tail : List ℕ} → length tail ≡ 4096 → Tails above 4096 tail
-  tails_none l = record { long = l; each = λ k a b. absurd (omega arith) }
-
-  pub fronts_none : {front : List ℕ} → length front ≡ 4096 → Fronts above 0 front
-  fronts_none l = record { long = l; each = λ k b. absurd (omega arith) }
-
-  pub gaps_none : {gap : List ℕ} → length gap ≡ 4096 → Gaps above 0 gap
-  gaps_none l = record { long = l; each = λ k b. absurd (omega arith) }
-
   -- one place more
   tail_step : {tail : List ℕ} {i x r : ℕ} → i < 4096 → Tails above (i + 1) tail → TailTurn tail i x
       → r ≡ min (at above i) x → Tails above i (set tail i r)

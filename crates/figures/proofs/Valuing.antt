@@ -1,6 +1,5 @@
--- The figures of a pair: what the functions ask of each other, and that a pair has figures, and one length and one
--- weight only.
-use Prim.Native.Nat.{ℕ, ◌+◌, ◌-◌, ◌*◌, ◌≤◌, ◌<◌}
+-- The figures of a pair: a pair has figures, and one length and one weight only.
+use Prim.Native.Nat.{ℕ, ◌+◌, ◌-◌, ◌*◌, ◌<◌}
 use mathlib.Core.Path.{◌≡◌, ap}
 use mathlib.Core.Logic.{◌⊎◌, inl, inr}
 use mathlib.Core.List.{List}
@@ -9,8 +8,7 @@ use native.Mathlib.Decide.{dec_lt}
 use Rattle.arrays.specs.At.{at}
 use Rattle.table.specs.work.Lift.{sum_lift, sum_end}
 use Rattle.layout.specs.work.Spotted.{LeastOf}
-use Rattle.figures.specs.work.Bins.{LeastAsked}
-use Rattle.figures.specs.work.Figures.{Joins, Figures, Figurable, FigureAsked, Crossing}
+use Rattle.figures.specs.work.Figures.{Joins, Figures, Figurable}
 use Rattle.figures.proofs.Leasts.{least_some, least_only}
 
 -- of two spots there are figures
@@ -84,90 +82,3 @@ module _ {n : ℕ} {spot above far heavy : List ℕ} (F : Figurable n spot above
       pick (inr h) =
           let j = joins_some F h (F.spots a (omega arith)) in
           (j.0, j.1, record { rises = λ k. absurd (omega arith); falls = λ k. j.2 })
-
--- what is asked between two spots is enough to find where they meet, and to read and to take away
-module _ {above tail front gap far heavy : List ℕ} {i j : ℕ} (C : Crossing above tail front gap far heavy i j) where
-  i_fits : i < C.n
-  i_fits = omega (arith, C.order, C.node)
-
-  pub crossing_least : LeastAsked above tail front gap i j
-  crossing_least =
-      let F = C.figurable in
-      record {
-        order = C.order;
-        place = omega (arith, C.node, F.small);
-        tables = C.tables;
-        small = omega (arith, F.parents j C.node, F.small);
-      }
-
-  -- what is read is small, and there is room to take away
-  pub record Room (m : ℕ) : Type 0 where
-    pub i_low : i < 4096
-    pub j_low : j < 4096
-    pub m_low : m < 4096
-    pub i_far : at far i < sum_end
-    pub j_far : at far j < sum_end
-    pub m_far : at far m < sum_end
-    pub i_heavy : at heavy i < sum_end
-    pub j_heavy : at heavy j < sum_end
-    pub m_heavy : at heavy m < sum_end
-    pub far_room : 2 * at far m ≤ at far i + at far j
-    pub heavy_room : 2 * at heavy m ≤ at heavy i + at heavy j + sum_lift
-    pub heavy_most : at heavy i + at heavy j + sum_lift < 2 * at heavy m + sum_end
-
-  pub crossing_room : {m : ℕ} → LeastOf (at above) (i + 1) j m → Room m
-  crossing_room {m} L =
-      let F = C.figurable in
-      let s = L.some in
-      let b : m < C.n = omega (arith, s.3, F.parents s.0 (omega (arith, s.2, C.node))) in
-      record {
-        i_low = omega (arith, i_fits, F.small);
-        j_low = omega (arith, C.node, F.small);
-        m_low = omega (arith, b, F.small);
-        i_far = F.far_small i i_fits;
-        j_far = F.far_small j C.node;
-        m_far = F.far_small m b;
-        i_heavy = F.heavy_small i i_fits;
-        j_heavy = F.heavy_small j C.node;
-        m_heavy = F.heavy_small m b;
-        far_room = F.far_room i j m C.order C.node L;
-        heavy_room = F.heavy_room i j m C.order C.node L;
-        heavy_most = F.heavy_most i j m C.order C.node L;
-      }
-
-module _ {n : ℕ} {spot above tail front gap far heavy : List ℕ} {a b : ℕ}
-    (A : FigureAsked n spot above tail front gap far heavy a b) where
-  pub asked_rise : {x y : ℕ} → x ≡ at spot a → y ≡ at spot b → x < y → Crossing above tail front gap far heavy x y
-  asked_rise e f h =
-      record {
-        n = n;
-        spot = spot;
-        figurable = A.figurable;
-        tables = A.tables;
-        order = h;
-        node = rw f (A.figurable.spots b A.node);
-      }
-
-  pub asked_fall : {x y : ℕ} → x ≡ at spot a → y ≡ at spot b → y ≤ x → Crossing above tail front gap far heavy y x
-  asked_fall {x} {y} e f h =
-      record {
-        n = n;
-        spot = spot;
-        figurable = A.figurable;
-        tables = A.tables;
-        order = pick (either A.figurable A.order A.node);
-        node = rw e (A.figurable.spots a (omega (arith, A.order, A.node)));
-      }
-    where
-      pick : (at spot a < at spot b) ⊎ (at spot b < at spot a) → y < x
-      pick (inl l) = absurd (omega arith)
-      pick (inr l) = omega arith
-
-  -- the figures of its two spots are a pair's
-  pub figures_rise : {x y l w : ℕ} → x ≡ at spot a → y ≡ at spot b → x < y → Joins above far heavy x y l w
-      → Figures spot above far heavy a b l w
-  figures_rise e f h j = record { rises = λ k. rw (e, f) at j; falls = λ k. absurd (omega arith) }
-
-  pub figures_fall : {x y l w : ℕ} → x ≡ at spot a → y ≡ at spot b → y ≤ x → Joins above far heavy y x l w
-      → Figures spot above far heavy a b l w
-  figures_fall e f h j = record { rises = λ k. absurd (omega arith); falls = λ k. rw (e, f) at j }

@@ -11,11 +11,8 @@ pub(crate) fn lay_names(spot: &[u16; 4096], n: usize, names: &mut [u16; 4096])
     ensures { Laid 0 n spot.now (λ v. v) names.new }
 {
     fill(names, 0);
-    let mut v = 0;
-    while v < n {
-        let s = wide(spot[v]);
-        names[s] = v as u16;
-        v += 1;
+    for v in 0..n {
+        names[wide(spot[v])] = v as u16;
     }
 }
 
@@ -27,11 +24,8 @@ pub(crate) fn lay_stops(spot: &[u16; 4096], size: &[u16; 4096], n: usize, stops:
         stops.new }
 {
     fill(stops, 0);
-    let mut v = 0;
-    while v < n {
-        let s = wide(spot[v]);
-        stops[s] = spot[v] + size[v];
-        v += 1;
+    for v in 0..n {
+        stops[wide(spot[v])] = spot[v] + size[v];
     }
 }
 
@@ -43,12 +37,8 @@ pub(crate) fn lay_spots(spot: &[u16; 4096], from: &[u16; 4096], n: usize, to: &m
         to.new }
 {
     fill(to, 0);
-    let mut v = 1;
-    while v < n {
-        let s = wide(spot[v]);
-        let u = wide(from[v]);
-        to[s] = spot[u];
-        v += 1;
+    for v in 1..n {
+        to[wide(spot[v])] = spot[wide(from[v])];
     }
 }
 
@@ -58,10 +48,7 @@ pub(crate) fn lay_long(spot: &[u16; 4096], from: &[u64; 4096], n: usize, to: &mu
     ensures { Laid 0 n spot.now (λ v. at from.now v) to.new }
 {
     fill_long(to, 0);
-    let mut v = 0;
-    while v < n {
-        let s = wide(spot[v]);
-        to[s] = from[v];
-        v += 1;
+    for v in 0..n {
+        to[wide(spot[v])] = from[v];
     }
 }

@@ -18,7 +18,7 @@ ghost use Rattle.layout.specs.work.Spotted.{Spotted};
 use crate::laid::{lay_long, lay_names, lay_spots, lay_stops};
 use crate::seats::seats;
 use limits::Limit;
-use parts::whole;
+use parts::{KEY_LIFT, whole};
 use paths::paths_from;
 use spans::Best;
 use spines::{heads_of, sizes_of};
@@ -111,7 +111,6 @@ pub fn heaviest_pair(
     // By spot: where spans end in order, heads in size, parents in head, names in parent, distances in bl, weights in
     // bw.
     lay_out(parent, head, &mut size, &spot, &d, &w, n, order, bl, bw);
-    let most = limit.most + parts::KEY_LIFT;
     // The two lists in spot and next, their keys in d and w, the spare list in place.
     whole(
         order,
@@ -127,8 +126,8 @@ pub fn heaviest_pair(
         place,
         n,
         Limit {
-            most: most,
-            exact: limit.exact,
+            most: limit.most + KEY_LIFT,
+            ..limit
         },
     )
 }

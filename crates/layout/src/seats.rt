@@ -59,15 +59,12 @@ pub(crate) fn seats(
 {
     fill(spot, 0);
     fill(next, 1);
-    let mut i = 1;
-    while i < n {
+    for i in 1..n {
         let v = wide(order[i]);
         let p = wide(parent[v]);
         let t = seat_of(head, size, spot, next, p, v);
-        let s = t.spot;
-        spot[v] = s;
+        spot[v] = t.spot;
         next[p] = t.next;
-        next[v] = s + 1;
-        i += 1;
+        next[v] = t.spot + 1;
     }
 }

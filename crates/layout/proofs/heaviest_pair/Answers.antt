@@ -1,30 +1,15 @@
 -- `layout::heaviest_pair` meets its contract: the numbering is what `whole` asks; the best pair of spots is the best
 -- pair of nodes over their climbs, and so over the net's own paths.
-use native.Mathlib.Omega.{arith}
 use Rattle.limits.proofs.Tests.{within_raised, within_lowered}
 use Rattle.parts.specs.work.Lift.{key_lift}
-use Rattle.paths.proofs.Fresh.{fresh}
 use Rattle.layout.proofs.Numbers.{layable, numbering, part}
 use Rattle.layout.proofs.Choosing.{laid_low, chosen}
 use Rattle.layout.proofs.Weighing.{d_low, w_low, heaviest}
 use Rattle.layout.proofs.heaviest_pair.Goals as goal
 
-pub paths_from-requires : goal.paths_from-requires
-paths_from-requires c =
-    let g = c.requires.ground in
-    (record { ground = g; node = g.grown.some.0 }, fresh)
-
-pub number-requires : goal.number-requires
-number-requires c =
-    c.requires.ground.grown
-
 pub lay_out-requires : goal.lay_out-requires
 lay_out-requires c =
     layable c.requires.ground.grown c.number.ensures.heads_all c.number.ensures.sizes_all c.number.ensures.seating
-
-pub overflow_add-most : goal.overflow_add-most
-overflow_add-most c =
-    omega (arith, c.requires.most_bound)
 
 pub whole-requires : goal.whole-requires
 whole-requires c =

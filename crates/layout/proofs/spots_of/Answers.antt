@@ -1,18 +1,7 @@
 -- `layout::spots_of` meets its contract: the spots are as laying out asks, and what is laid out tells the net's paths.
-use Rattle.paths.proofs.Fresh.{fresh}
 use Rattle.layout.proofs.Numbers.{layable}
 use Rattle.layout.proofs.Spotting.{spotted}
 use Rattle.layout.proofs.spots_of.Goals as goal
-
-pub paths_from-requires : goal.paths_from-requires
-paths_from-requires c =
-    let pre = c.requires in
-    (record { ground = pre; node = pre.grown.some.0 }, fresh)
-
-pub number-requires : goal.number-requires
-number-requires c =
-    let pre = c.requires in
-    pre.grown
 
 pub lay_spots-requires : goal.lay_spots-requires
 lay_spots-requires c =

@@ -1,5 +1,5 @@
 -- `figures::bins::fronts` meets its contract: the invariant says that the table is right below place i.
-use Prim.Native.Nat.{◌-◌, ◌≤◌}
+use Prim.Native.Nat.{◌≤◌}
 use Rattle.figures.specs.work.Bins.{Fronts}
 use Rattle.figures.proofs.bins.fronts.Given as goal
 

@@ -1,6 +1,6 @@
 -- `figures::bins::gaps` meets its contract: the invariant says that the table is right below place i, of whatever
 -- list the tails are of.
-use Prim.Native.Nat.{ℕ, ◌-◌, ◌≤◌}
+use Prim.Native.Nat.{ℕ, ◌≤◌}
 use mathlib.Core.List.{List}
 use Rattle.figures.specs.work.Bins.{Tails, Gaps}
 use Rattle.figures.proofs.bins.gaps.Given as goal

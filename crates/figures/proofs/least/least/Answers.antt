@@ -1,5 +1,5 @@
 -- `figures::least::least` meets its contract: in one bin by the scan, else by a tail, the bins between and a front.
-use Rattle.figures.proofs.Leasts.{search_near, search_far}
+use Rattle.figures.proofs.Leasts.{search_far}
 use Rattle.figures.proofs.least.least.Goals as goal
 
 pub returns : goal.returns

@@ -1,5 +1,5 @@
 -- `figures::least::scan` meets its contract: m is the least of the places from begin to below k.
-use Prim.Native.Nat.{◌+◌, ◌-◌, ◌≤◌}
+use Prim.Native.Nat.{◌≤◌}
 use Rattle.arrays.specs.At.{at}
 use Rattle.figures.specs.work.Bins.{LeastOrNone}
 use Rattle.figures.proofs.least.scan.Given as goal

@@ -1,6 +1,5 @@
--- `layout::lay_spots` meets its contract: the invariant says that the nodes below v have put theirs. The measure is
--- what is left of the nodes.
-use Prim.Native.Nat.{ℕ, ◌-◌, ◌≤◌, ◌<◌}
+-- `layout::lay_spots` meets its contract: the invariant says that the nodes below v have put theirs.
+use Prim.Native.Nat.{ℕ, ◌≤◌, ◌<◌}
 use Rattle.arrays.specs.At.{at}
 use Rattle.layout.specs.work.Laid.{Spots, Laid}
 use Rattle.layout.proofs.laid.lay_spots.Given as goal
@@ -12,6 +11,3 @@ invariant-loop-v l =
     × Spots l.n l.spot
     × Laid 1 l.v l.spot (λ x. at l.spot (at l.from x)) l.to
     × ((x : ℕ) → 1 ≤ x → x < l.n → at l.from x < l.n)
-
-abbrev pub decreases-loop-v : goal.decreases-loop-v
-decreases-loop-v l = l.n - l.v

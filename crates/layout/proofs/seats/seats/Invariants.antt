@@ -1,7 +1,5 @@
--- `layout::seats` meets its contract. The invariant: the first i nodes of the walk have their spots (`Seating`). The
--- measure is what is left of the walk. The i-th node and its parent have a place in each array (`node_in`,
--- `parent_in`), as the walk reaches no other.
-use Prim.Native.Nat.{◌-◌, ◌≤◌, ◌<◌}
+-- `layout::seats` meets its contract. The invariant: the first i nodes of the walk have their spots (`Seating`).
+use Prim.Native.Nat.{◌≤◌, ◌<◌}
 use Rattle.reach.specs.work.Grown.{Grown}
 use Rattle.spines.specs.work.Parents.{SizesAll}
 use Rattle.layout.specs.work.Seats.{Seating}
@@ -14,6 +12,3 @@ invariant-loop-i l =
     × Grown l.n l.parent l.order l.place
     × SizesAll l.n l.parent l.size
     × Seating l.n l.parent l.place l.head l.size l.i l.spot l.next
-
-abbrev pub decreases-loop-i : goal.decreases-loop-i
-decreases-loop-i l = l.n - l.i
