@@ -2,12 +2,12 @@
 // greatest weight; among equals the shorter, then the earlier pair.
 #![tactic(auto)]
 
-ghost use Rattle.std.specs.Prelude.{◌<◌};
+ghost use Rattle.std.specs.Prelude.{◌≡◌, ◌<◌};
 ghost use Rattle.table.specs.Header.{bound_of};
 ghost use Rattle.net.specs.work.Net.{Net};
 ghost use Rattle.limits.specs.work.Fits.{Within, Fits};
 ghost use Rattle.layout.specs.work.BestPair.{BestPair};
-ghost use Rattle.heaviest.specs.Heaviest.{Chooses, HeaviestWithin, HeaviestOf, HeaviestExactOf};
+ghost use Rattle.heaviest.specs.Heaviest.{heaviest_refusal, Chooses, HeaviestWithin, HeaviestOf, HeaviestExactOf};
 ghost use Rattle.ground.specs.PathOf.{PathOf};
 
 use ground::grounded;
@@ -26,6 +26,16 @@ pub enum HeaviestAnswer {
         weight: i64,
     },
     Refused(Refusal),
+}
+
+fn refused_by(number: u8) -> HeaviestAnswer
+    ensures { result ≡ heaviest_refusal number 0 0 }
+{
+    HeaviestAnswer::Refused(Refusal {
+        number,
+        row: 0,
+        ring: 0,
+    })
 }
 
 // The best pair of an accepted net, its length and weight lifted by 2^40; weight 0 is none. The four arrays lent are
@@ -71,19 +81,11 @@ fn choose(
 {
     let n = arrays::wide(nodes);
     if marks.len() != n - 1 {
-        return HeaviestAnswer::Refused(Refusal {
-            number: 13,
-            row: 0,
-            ring: 0,
-        });
+        return refused_by(13);
     }
     let b = search(s, marks, nodes, limit, parent, half, order, place);
     if b.weight == 0 {
-        return HeaviestAnswer::Refused(Refusal {
-            number: none,
-            row: 0,
-            ring: 0,
-        });
+        return refused_by(none);
     }
     let low = b.low as u16;
     let high = b.high as u16;
@@ -125,10 +127,9 @@ fn heaviest_in_mode(s: &[u8], marks: &[u16], exact: bool, none: u8) -> HeaviestA
     match o {
         Acceptance::Refused(why) => HeaviestAnswer::Refused(why),
         Acceptance::Accepted { nodes, bound } => {
-            let most = arrays::long(bound);
             let limit = Limit {
-                most: most,
-                exact: exact,
+                most: arrays::long(bound),
+                exact,
             };
             choose(
                 s,

@@ -10,14 +10,16 @@ use Rattle.heaviest.proofs.FromBest.{none_within, nodes_fit, length_fits, weight
 use Rattle.heaviest.proofs.choose.Goals as goal
 
 pub returns-then-marks-n : goal.returns-then-marks-n
-returns-then-marks-n c = refused (λ h. c.if-marks-n.true (omega (arith, c.wide-n.ensures)))
+returns-then-marks-n c =
+    rw c.refused_by.ensures (refused (λ h. c.if-marks-n.true (omega (arith, c.wide-n.ensures))))
 
 pub returns-then-b-eq0 : goal.returns-then-b-eq0
 returns-then-b-eq0 c =
     let wide-ensures = c.wide-n.ensures in
     let args = c.args in
-    passed (omega (arith, wide-ensures))
-    (refused (none_within _ args.marks.now c.requires.net c.search-b.ensures (omega arith)))
+    rw c.refused_by-then-b-eq0.ensures
+    (passed (omega (arith, wide-ensures))
+    (refused (none_within _ args.marks.now c.requires.net c.search-b.ensures (omega arith))))
 
 pub overflow_cast-low : goal.overflow_cast-low
 overflow_cast-low c =

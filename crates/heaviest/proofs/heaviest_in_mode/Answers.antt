@@ -6,7 +6,7 @@ use Rattle.heaviest.proofs.heaviest_in_mode.Goals as goal
 
 pub choose-requires : goal.choose-requires
 choose-requires c =
-    let long-ensures = c.long-most.ensures in
+    let long-ensures = c.long.ensures in
     let accept-in-ensures = c.accept_in-o.ensures in
     record { net = (admitted _ _ _ (rw c.in-Accepted.is at accept-in-ensures)).net; most_bound = long-ensures.1 }
 
@@ -17,7 +17,7 @@ returns-in-Refused c =
 
 pub returns-in-Accepted : goal.returns-in-Accepted
 returns-in-Accepted c =
-    let long-ensures = c.long-most.ensures in
+    let long-ensures = c.long.ensures in
     let accept-in-ensures = c.accept_in-o.ensures in
     let p = rw c.in-Accepted.is at accept-in-ensures in
     let a = admitted _ _ _ p in
