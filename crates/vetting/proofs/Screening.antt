@@ -15,8 +15,9 @@ use Rattle.vetting.specs.Vets.{list_pair, GoodRow, There, Vets}
 use Rattle.vetting.specs.declared.Vetted.TheVariants.{Yes, Fault, Missing}
 use Rattle.vetting.specs.work.Foreign.{Belongs, FirstForeign}
 use Rattle.vetting.specs.work.Lines.{InBlock, LineDone}
+use Rattle.vetting.specs.declared.lacks.Lack.{Lack}
 use Rattle.vetting.specs.work.Repeats.{low_of, high_of, Named, NamePairs, Repeats}
-use Rattle.vetting.specs.work.Lacks.{Lacks, Covered, FirstLack}
+use Rattle.vetting.specs.work.Lacks.{Lacks, Covered, CoveredBelow, FirstOf}
 use Rattle.vetting.specs.work.Screened.{Screened}
 use Rattle.vetting.proofs.LineLaws.{line_some, line_half, in_block, block_or_done}
 use Rattle.vetting.proofs.RowLaws.{row_low, row_high, row_names, same_front, low_read, high_read}
@@ -151,22 +152,34 @@ module _ {P : Entry → Type 0} {n : ℕ} (Q : Paired P n) (s : List ℕ) where
           let b : Belongs P s t.place = record { entry = e; belongs = p; shows = t.shows } in
           record { place = t.place; within = t.within; first = names_low b; second = names_high b }
 
-      module _ {low high : ℕ} (F : FirstLack P (Named s m) n (LineDone n from) low high) where
-        covered : (e : Entry) → P e → Covered P (Named s m) e.low e.high → There s m e
-        covered e p c = named_there e p (c.found e p refl refl)
+      covered : (e : Entry) → P e → Covered P (Named s m) e.low e.high → There s m e
+      covered e p c = named_there e p (c.found e p refl refl)
 
-        done_low : (e : Entry) → P e → LineDone n from e.low
-        done_low e p = all_done over (first_node e p)
+      done_low : (e : Entry) → P e → LineDone n from e.low
+      done_low e p = all_done over (first_node e p)
 
-        pub vets_yes : n ≤ low → Vets P s m Yes
-        vets_yes h = (
-          all_good,
-          λ e p. covered e p
-              (F.lines e.low e.high (omega (arith, first_node e p)) (done_low e p) (Q.pair e p) (Q.node e p)),
-        )
+      pub vets_yes : CoveredBelow P (Named s m) n (LineDone n from) n → Vets P s m Yes
+      vets_yes F = (
+        all_good,
+        λ e p. covered e p (F e.low (first_node e p) (done_low e p) e.high (Q.pair e p) (Q.node e p)),
+      )
 
-        pub vets_missing : low < n → Vets P s m (Missing low high)
-        vets_missing h = (
+      module _ {k : Lack} (F : FirstOf P (Named s m) n (LineDone n from) k) where
+        L : Lacks P (Named s m) k.low k.high
+        L = F.first.here
+
+        named : Named s m L.entry.low L.entry.high → Named s m k.low k.high
+        named t = named_as L.low L.high t
+
+        earlier : (e : Entry) → P e → Before e L.entry → Covered P (Named s m) e.low e.high
+        earlier e p (first l) =
+            F.lines e.low (omega (arith, L.low)) (done_low e p) e.high (Q.pair e p) (Q.node e p)
+        earlier e p (second q l) =
+            let w : e.low ≡ k.low = q ∙ L.low in
+            covered_at w (F.first.before e.high (omega (arith, Q.pair e p)) (omega (arith, L.high)))
+
+        pub vets_missing : Vets P s m (Missing k.low k.high)
+        vets_missing = (
           all_good,
           record {
             entry = L.entry;
@@ -177,16 +190,3 @@ module _ {P : Entry → Type 0} {n : ℕ} (Q : Paired P n) (s : List ℕ) where
             high_is = sym L.high;
           },
         )
-          where
-            L : Lacks P (Named s m) low high
-            L = F.here h
-
-            named : Named s m L.entry.low L.entry.high → Named s m low high
-            named k = named_as L.low L.high k
-
-            earlier : (e : Entry) → P e → Before e L.entry → Covered P (Named s m) e.low e.high
-            earlier e p (first l) =
-                F.lines e.low e.high (omega (arith, L.low)) (done_low e p) (Q.pair e p) (Q.node e p)
-            earlier e p (second q l) =
-                let k : e.low ≡ low = q ∙ L.low in
-                covered_at k (F.before h e.high (omega (arith, Q.pair e p)) (omega (arith, L.high)))

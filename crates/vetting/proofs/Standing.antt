@@ -6,19 +6,21 @@ use mathlib.Core.List.{List}
 use native.Mathlib.Omega.{arith}
 use native.Mathlib.Nat.{mul-div-le, div-le_self, le-div_iff_mul-le}
 use lib.ListN.{length}
+use Rattle.std.proofs.Common.{Option, Some, None}
 use Rattle.limits.specs.declared.Limit.{Limit}
 use Rattle.pages.specs.Listing.{Entry}
 use Rattle.figures.specs.work.Bins.{Tables}
 use Rattle.vetting.specs.Vets.{Vets}
 use Rattle.vetting.specs.declared.Vetted.TheVariants.{Yes, Fault, Missing}
+use Rattle.vetting.specs.declared.lacks.Lack.{Lack}
 use Rattle.vetting.specs.declared.pairs.Pairs.{Pairs}
 use Rattle.vetting.specs.work.Foreign.{FirstForeign}
 use Rattle.vetting.specs.work.Lines.{LineDone, Block}
 use Rattle.vetting.specs.work.Meant.{Numbers, Ready}
 use Rattle.vetting.specs.work.Repeats.{Named, Unrepeated, Repeats, Repeatable}
-use Rattle.vetting.specs.work.Lacks.{InSet, FirstLack, BlockLack}
-use Rattle.vetting.specs.work.Screened.{ScreenedTo, ScreenedAll, RowsAsked, BlocksAsked}
-use Rattle.vetting.proofs.Lacking.{lack_none, lack_next}
+use Rattle.vetting.specs.work.Lacks.{InSet, FirstOf, FirstLack, BlockLack, open_to}
+use Rattle.vetting.specs.work.Screened.{ScreenedTo, RowsAsked, BlocksAsked}
+use Rattle.vetting.proofs.Lacking.{lack_none, lack_next, open_within}
 use Rattle.vetting.proofs.Screening.{
   Paired,
   belong_pairs,
@@ -30,12 +32,12 @@ use Rattle.vetting.proofs.Screening.{
 }
 
 -- what the loop keeps: blocks of `height` lines, and how the list stands before line `end`
-pub record Blocked (P : Entry → Type 0) (s : List ℕ) (m n height r low high end : ℕ) : Type 0 where
+pub record Blocked (P : Entry → Type 0) (s : List ℕ) (m n height r : ℕ) (k : Option Lack) (end : ℕ) : Type 0 where
   pub room : n * height ≤ 1048576
   pub some : 0 < height
   pub few : height ≤ 1048576
   pub small : end ≤ 1050624
-  pub to : ScreenedTo P s m n end r low high
+  pub to : ScreenedTo P s m n end r k
 
 -- the numbers that are asked, with the tables made of them
 pub numbers_of : {s : List ℕ} {m n : ℕ} {spot above tail front gap far heavy : List ℕ} {limit : Limit}
@@ -51,7 +53,7 @@ tall : {n : ℕ} → 0 < n → n ≤ 4096 → 0 < 1048576 / n
 tall {n} h l = omega (arith, (le-div_iff_mul-le {k = n} {x = 1} {y = 1048576} h).1 (omega arith))
 
 module _ {P : Entry → Type 0} {n : ℕ} (Q : Paired P n) {s : List ℕ} {m : ℕ} where
-  pub blocks_start : {r : ℕ} → 0 < n → n ≤ 4096 → FirstForeign P s m r → Blocked P s m n (1048576 / n) r n 0 0
+  pub blocks_start : {r : ℕ} → 0 < n → n ≤ 4096 → FirstForeign P s m r → Blocked P s m n (1048576 / n) r None 0
   blocks_start h l F = record {
     room = mul-div-le 1048576 n;
     some = tall h l;
@@ -60,7 +62,7 @@ module _ {P : Entry → Type 0} {n : ℕ} (Q : Paired P n) {s : List ℕ} {m : �
     to = record { rows = screened_none Q s F; lack = λ _. lack_none n };
   }
 
-  module _ {height r low high from : ℕ} (B : Blocked P s m n height r low high from) (more : 2 * from < n)
+  module _ {height r from : ℕ} {k : Option Lack} (B : Blocked P s m n height r k from) (more : 2 * from < n)
       (nodes : n ≤ 4096) where
     pub block_of : Block n from (from + height)
     block_of =
@@ -73,9 +75,9 @@ module _ {P : Entry → Type 0} {n : ℕ} (Q : Paired P n) {s : List ℕ} {m : �
         record { block = block_of; named = belong_pairs Q s (omega (arith, T.within)) T.belong }
 
     module _ {x : ℕ} {bits : List ℕ} (R : Repeats s n from (from + height) r x bits) where
-      kept : (low' high' : ℕ) → (x ≡ m → FirstLack P (Named s m) n (LineDone n (from + height)) low' high')
-          → Blocked P s m n height x low' high' (from + height)
-      kept low' high' f = record {
+      kept : (k' : Option Lack) → (x ≡ m → FirstLack P (Named s m) n (LineDone n (from + height)) k')
+          → Blocked P s m n height x k' (from + height)
+      kept k' f = record {
         room = B.room;
         some = B.some;
         few = B.few;
@@ -84,45 +86,42 @@ module _ {P : Entry → Type 0} {n : ℕ} (Q : Paired P n) {s : List ℕ} {m : �
       }
 
       -- a row is at fault: no pair is looked for
-      pub blocks_skip : x ≢ m → Blocked P s m n height x low high (from + height)
-      blocks_skip o = kept low high (λ e. absurd (o e))
+      pub blocks_skip : x ≢ m → Blocked P s m n height x k (from + height)
+      blocks_skip o = kept k (λ e. absurd (o e))
 
       module _ (e : x ≡ m) where
         full : r ≡ m
         full = omega (arith, R.within, B.to.rows.within)
 
-        pub known_low : low ≤ n
-        known_low = (B.to.lack full).within
+        pub known_open : open_to n k ≤ n
+        known_open = open_within P (Named s m) n (LineDone n from) k (B.to.lack full)
 
-        pub blocks_next : {low' high' : ℕ} → length s ≡ 16 * m
-            → BlockLack P (InSet n from bits) n from (from + height) low high low' high'
-            → Blocked P s m n height x low' high' (from + height)
-        blocks_next {low'} {high'} l K =
-            kept low' high'
+        pub blocks_next : {k' : Option Lack} → length s ≡ 16 * m
+            → BlockLack P (InSet n from bits) n from (from + height) k k'
+            → Blocked P s m n height x k' (from + height)
+        blocks_next {k'} l K =
+            kept k'
             (λ _. lack_next (belong_pairs Q s (omega arith) (λ i h. B.to.rows.belong i (omega (arith, full)))) seen
-            (B.to.lack full) K (omega arith))
+            k (B.to.lack full) K (omega arith))
           where
             seen : Unrepeated s n from (from + height) m bits
             seen = rw e at R.seen
 
-  pub blocks_end : {height r low high end : ℕ} → n ≤ 2 * end → Blocked P s m n height r low high end
-      → ScreenedAll P s m n r low high
-  blocks_end {end = end} h B = record { from = end; over = h; to = B.to }
-
   -- THE VERDICT
-  module _ {r low high : ℕ} (A : ScreenedAll P s m n r low high) where
+  module _ {height r end : ℕ} {k : Option Lack} (h : n ≤ 2 * end) (B : Blocked P s m n height r k end) where
     pub verdict_fault : r < m → Vets P s m (Fault r)
-    verdict_fault h = vets_fault Q s A.over A.to.rows h
+    verdict_fault l = vets_fault Q s h B.to.rows l
 
     module _ (e : m ≤ r) where
       all : r ≡ m
-      all = omega (arith, A.to.rows.within)
+      all = omega (arith, B.to.rows.within)
 
-      pub verdict_yes : n ≤ low → Vets P s m Yes
-      verdict_yes h = vets_yes Q s A.over A.to.rows all (A.to.lack all) h
+      pub verdict_yes : k ≡ None → Vets P s m Yes
+      verdict_yes o = vets_yes Q s h B.to.rows all (rw o at (B.to.lack all))
 
-      pub verdict_missing : low < n → Vets P s m (Missing low high)
-      verdict_missing h = vets_missing Q s A.over A.to.rows all (A.to.lack all) h
+      module _ {l : Lack} (o : k ≡ Some l) where
+        first_of : FirstOf P (Named s m) n (LineDone n end) l
+        first_of = rw o at (B.to.lack all)
 
-      pub missing_high : low < n → high < n
-      missing_high h = let k = (A.to.lack all).here h in omega (arith, k.high, Q.node k.entry k.belongs)
+        pub verdict_missing : Vets P s m (Missing l.low l.high)
+        verdict_missing = vets_missing Q s h B.to.rows all first_of

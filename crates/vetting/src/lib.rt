@@ -1,7 +1,7 @@
 // A list of rows vetted against the entries that the numbers of a net mean: each row's figures first (rows.rt), then
 // block after block of lines, two first nodes to a line (blocks.rt): which pairs of the block the rows name
 // (repeats.rt, over lines.rt and bits.rt), and which that belong none does (lacks.rt). So the set of bits is for one
-// block's pairs, not for all.
+// block's pairs, not for all. What a pair's figures are is asked of the numbers (pairs.rt).
 #![tactic(auto)]
 
 mod bits;
@@ -67,14 +67,5 @@ pub fn vet_rows(
         sums,
     };
     let row = first_foreign(list, m, &pairs);
-    let s = screen(list, m, row, &pairs);
-    if s.row < m {
-        return Vetted::Fault { row: s.row };
-    }
-    if s.low < n {
-        let low = s.low as u16;
-        let high = s.high as u16;
-        return Vetted::Missing { low, high };
-    }
-    Vetted::Yes
+    screen(list, m, row, &pairs)
 }

@@ -1,5 +1,5 @@
 -- How a list stands when some first nodes have been tested.
-use Rattle.std.specs.Prelude.{ℕ, ◌*◌, ◌≤◌, ◌<◌, ◌≡◌, List, length}
+use Rattle.std.specs.Prelude.{ℕ, ◌*◌, ◌≤◌, ◌<◌, ◌≡◌, List, Option, length}
 use Rattle.limits.specs.declared.Limit.{Limit}
 use Rattle.pages.specs.Listing.{Entry}
 use Rattle.figures.specs.work.Bins.{Tables}
@@ -9,6 +9,7 @@ use Rattle.vetting.specs.work.Foreign.{Belongs}
 use Rattle.vetting.specs.work.Lines.{LineDone}
 use Rattle.vetting.specs.work.Repeats.{low_of, high_of, Named}
 use Rattle.vetting.specs.work.Lacks.{FirstLack}
+use Rattle.vetting.specs.declared.lacks.Lack.{Lack}
 use Rattle.vetting.specs.declared.pairs.Pairs.{Pairs}
 
 -- the first r rows belong, none of those whose first node is one with D names the pair of an earlier one, and row r,
@@ -19,17 +20,11 @@ pub record Screened (P : Entry → Type 0) (s : List ℕ) (m : ℕ) (D : ℕ →
   pub fresh : (i : ℕ) → i < r → D (low_of s i) → ¬ Named s i (low_of s i) (high_of s i)
   pub bad : r < m → ¬ GoodRow P s r
 
--- the lines before `from` are done: r is as above and, where no row is at fault, low and high are the first pair of
--- those first nodes that no row names
-pub record ScreenedTo (P : Entry → Type 0) (s : List ℕ) (m n from r low high : ℕ) : Type 0 where
+-- the lines before `from` are done: r is as above and, where no row is at fault, so is the first pair of those first
+-- nodes that no row names
+pub record ScreenedTo (P : Entry → Type 0) (s : List ℕ) (m n from r : ℕ) (k : Option Lack) : Type 0 where
   pub rows : Screened P s m (LineDone n from) r
-  pub lack : r ≡ m → FirstLack P (Named s m) n (LineDone n from) low high
-
--- all lines are done
-pub record ScreenedAll (P : Entry → Type 0) (s : List ℕ) (m n r low high : ℕ) : Type 0 where
-  pub from : ℕ
-  pub over : n ≤ 2 * from
-  pub to : ScreenedTo P s m n from r low high
+  pub lack : r ≡ m → FirstLack P (Named s m) n (LineDone n from) k
 
 -- what the whole asks, and what the blocks ask: the tables too
 pub record RowsAsked (s : List ℕ) (m n : ℕ) (spot above far heavy : List ℕ) (limit : Limit) : Type 0 where

@@ -1,15 +1,6 @@
 use native.Mathlib.Omega.{arith}
 use Rattle.vetting.proofs.Belonging.{meant_paired}
-use Rattle.vetting.proofs.Standing.{
-  asked_numbers,
-  blocks_start,
-  block_of,
-  repeatable,
-  known_low,
-  blocks_skip,
-  blocks_next,
-  blocks_end,
-}
+use Rattle.vetting.proofs.Standing.{asked_numbers, blocks_start, block_of, repeatable, known_open, blocks_skip, blocks_next, verdict_fault, verdict_yes, verdict_missing}
 use Rattle.vetting.proofs.blocks.screen.Goals as goal
 
 pub nonzero_div-height : goal.nonzero_div-height
@@ -42,7 +33,7 @@ first_lack-lack-requires c =
     let small = asked.rows.figurable.small in (
       asked_numbers asked,
       block_of paired loop-inv loop-test-taken small,
-      known_low paired loop-inv loop-test-taken small c.first_repeat-r.ensures
+      known_open paired loop-inv loop-test-taken small c.first_repeat-r.ensures
           c.if-r-m.true,
     )
 
@@ -75,7 +66,17 @@ loop-end-preserved c =
     blocks_skip (meant_paired _ (asked_numbers asked)) loop-inv loop-test-taken asked.rows.figurable.small
     c.first_repeat-r.ensures c.if-r-m.false
 
-pub returns : goal.returns
-returns c =
-    let pre = c.requires in
-    blocks_end (meant_paired _ (asked_numbers pre.0)) (omega (arith, c.loop-end-test.false)) c.loop-end.invariant
+pub returns-then-r-m-2 : goal.returns-then-r-m-2
+returns-then-r-m-2 c =
+    verdict_fault (meant_paired _ (asked_numbers c.requires.0)) (omega (arith, c.loop-end-test.false))
+    c.loop-end.invariant c.if-r-m-2.true
+
+pub returns-in-Some : goal.returns-in-Some
+returns-in-Some c =
+    verdict_missing (meant_paired _ (asked_numbers c.requires.0)) (omega (arith, c.loop-end-test.false))
+    c.loop-end.invariant (omega (arith, c.if-r-m-2.false)) c.in-Some.is
+
+pub returns-in-None : goal.returns-in-None
+returns-in-None c =
+    verdict_yes (meant_paired _ (asked_numbers c.requires.0)) (omega (arith, c.loop-end-test.false))
+    c.loop-end.invariant (omega (arith, c.if-r-m-2.false)) c.in-None.is

@@ -6,8 +6,7 @@ use Rattle.vetting.proofs.blocks.screen.Given as goal
 
 abbrev pub invariant-loop-end : goal.invariant-loop-end
 invariant-loop-end l =
-    Blocked (MeantOf l.pairs) l.list l.m l.pairs.n l.height l.r l.lack.low l.lack.high
-    l.end
+    Blocked (MeantOf l.pairs) l.list l.m l.pairs.n l.height l.r l.lack l.end
 
 abbrev pub decreases-loop-end : goal.decreases-loop-end
 decreases-loop-end l = l.pairs.n - l.end
