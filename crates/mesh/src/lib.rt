@@ -68,6 +68,7 @@ fn from_root(s: &[u8], rows: usize, n: usize, tree0: &Tree, a: usize) -> Option<
 }
 
 // 37 and 38, and the most over all roots: of equal ones the first.
+#[inline(never)]
 fn from_all(s: &[u8], rows: usize, n: usize) -> MeshAnswer
     requires { MeshReadable s.now rows n × (0 < n) × NoRepeat (first_end s.now) (second_end s.now) rows }
     ensures { MeshJoined (first_end s.now) (second_end s.now) rows n result }

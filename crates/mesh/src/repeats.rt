@@ -61,7 +61,9 @@ fn top(rows: usize) -> usize
     rows.min(65537)
 }
 
-// The first row that repeats a pair.
+// The first row that repeats a pair. Never inlined, nor is from_all: what is noted here and the trees there would be on
+// the stack at once.
+#[inline(never)]
 pub(crate) fn first_repeat(s: &[u8], n: usize, rows: usize) -> Option<usize>
     requires { MeshReadable s.now rows n }
     ensures { MatchOption result (NoRepeat (first_end s.now) (second_end s.now) rows)
