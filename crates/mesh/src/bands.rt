@@ -70,8 +70,8 @@ fn named(w: u16, x: usize) -> usize
     if w == 256 { x } else { wide(w) }
 }
 
-// Each node's band, and how many nodes each band has. Before the bands are named `over` has 256, and no None, for a node
-// that no row passes over: the named bands stand in the same places, and there every node has one.
+// Each node's band, and how many nodes each band has. Before the bands are named `over` has 256, and no None, for a
+// node that no row passes over: the named bands stand in the same places, and there every node has one.
 #[derive(Drop)]
 pub(crate) struct Bands {
     pub over: [u16; 256],

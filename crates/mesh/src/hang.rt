@@ -16,6 +16,7 @@ ghost use Rattle.mesh.specs.work.Hung.{
   TurnedTo,
 };
 
+use crate::header::Head;
 use arrays::wide;
 use net::{first_end, second_end};
 
@@ -95,14 +96,14 @@ fn missing(place: &[u16; 256], n: usize) -> bool
 }
 
 // All nodes that are joined to node 0, hung up there; None where these are not all n.
-pub(crate) fn spread(s: &[u8], rows: usize, n: usize) -> Option<Tree>
-    requires { MeshReadable s.now rows n × (0 < n) }
-    ensures { MatchOption result (¬ Connected (first_end s.now) (second_end s.now) rows n)
-        (λ t. HungAt (first_end s.now) (second_end s.now) rows n 0 t.par t.order t.place) }
+pub(crate) fn spread(s: &[u8], head: Head) -> Option<Tree>
+    requires { MeshReadable s.now head.rows head.nodes × (0 < head.nodes) }
+    ensures { MatchOption result (¬ Connected (first_end s.now) (second_end s.now) head.rows head.nodes)
+        (λ t. HungAt (first_end s.now) (second_end s.now) head.rows head.nodes 0 t.par t.order t.place) }
 {
     let mut tree = start(0);
     let mut m: usize = 1;
-    while let Some(r) = leads(s, rows, &tree.place) {
+    while let Some(r) = leads(s, head.rows, &tree.place) {
         let p = first_end(s, r);
         let q = second_end(s, r);
         let c = new_end(tree.place[p], p, q);
@@ -110,7 +111,7 @@ pub(crate) fn spread(s: &[u8], rows: usize, n: usize) -> Option<Tree>
         tree.hang(m, c, d);
         m += 1;
     }
-    if missing(&tree.place, n) {
+    if missing(&tree.place, head.nodes) {
         return None;
     }
     Some(tree)

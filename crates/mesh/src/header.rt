@@ -4,7 +4,7 @@ ghost use Rattle.mesh.specs.work.Head.{HeadTold};
 use numbers::two;
 
 // The node count and the number of rows.
-#[derive(Drop)]
+#[derive(Clone, Copy, Drop)]
 pub(crate) struct Head {
     pub nodes: usize,
     pub rows: usize,

@@ -22,6 +22,7 @@ ghost use Rattle.mesh.specs.work.Bands.{NoRepeat};
 ghost use Rattle.mesh.specs.work.Roots.{FromRoot};
 
 use crate::hang::Tree;
+use crate::header::Head;
 use tree::Refusal;
 
 // The most branches on a simple path and the two ends of the first path that has so many, or why not.
@@ -49,18 +50,19 @@ fn refused(number: u8, row: usize) -> MeshAnswer
 }
 
 // The most branches on a simple path from node a; None for 38.
-fn from_root(s: &[u8], rows: usize, n: usize, tree0: &Tree, a: usize) -> Option<Far>
-    requires { MeshReadable s.now rows n
-        × HungAt (first_end s.now) (second_end s.now) rows n 0 tree0.now.par tree0.now.order tree0.now.place
-        × NoRepeat (first_end s.now) (second_end s.now) rows × (a < n) }
-    ensures { MatchOption result (¬ OneRing (first_end s.now) (second_end s.now) rows)
-        (λ f. FromRoot (first_end s.now) (second_end s.now) rows a f.branches f.node × (f.node < n)) }
+fn from_root(s: &[u8], head: Head, tree0: &Tree, a: usize) -> Option<Far>
+    requires { MeshReadable s.now head.rows head.nodes
+        × HungAt (first_end s.now) (second_end s.now) head.rows head.nodes 0
+        tree0.now.par tree0.now.order tree0.now.place
+        × NoRepeat (first_end s.now) (second_end s.now) head.rows × (a < head.nodes) }
+    ensures { MatchOption result (¬ OneRing (first_end s.now) (second_end s.now) head.rows)
+        (λ f. FromRoot (first_end s.now) (second_end s.now) head.rows a f.branches f.node × (f.node < head.nodes)) }
 {
-    let tree = hang::turn(n, tree0, a);
-    let over = bands::passes(s, rows, &tree)?;
-    let bands = bands::sizes(n, over);
-    let swept = sweep::sweep(n, &tree, &bands);
-    let node = sweep::farthest(&swept.most, n);
+    let tree = hang::turn(head.nodes, tree0, a);
+    let over = bands::passes(s, head.rows, &tree)?;
+    let bands = bands::sizes(head.nodes, over);
+    let swept = sweep::sweep(head.nodes, &tree, &bands);
+    let node = sweep::farthest(&swept.most, head.nodes);
     Some(Far {
         branches: swept.most[node],
         node,
@@ -69,18 +71,19 @@ fn from_root(s: &[u8], rows: usize, n: usize, tree0: &Tree, a: usize) -> Option<
 
 // 37 and 38, and the most over all roots: of equal ones the first.
 #[inline(never)]
-fn from_all(s: &[u8], rows: usize, n: usize) -> MeshAnswer
-    requires { MeshReadable s.now rows n × (0 < n) × NoRepeat (first_end s.now) (second_end s.now) rows }
-    ensures { MeshJoined (first_end s.now) (second_end s.now) rows n result }
+fn from_all(s: &[u8], head: Head) -> MeshAnswer
+    requires { MeshReadable s.now head.rows head.nodes × (0 < head.nodes)
+        × NoRepeat (first_end s.now) (second_end s.now) head.rows }
+    ensures { MeshJoined (first_end s.now) (second_end s.now) head.rows head.nodes result }
 {
-    let Some(tree) = hang::spread(s, rows, n) else {
+    let Some(tree) = hang::spread(s, head) else {
         return refused(37, 0);
     };
     let mut branches: u16 = 0;
     let mut low: usize = 0;
     let mut high: usize = 0;
-    for a in 0..n {
-        let Some(far) = from_root(s, rows, n, &tree, a) else {
+    for a in 0..head.nodes {
+        let Some(far) = from_root(s, head, &tree, a) else {
             return refused(38, 0);
         };
         if branches < far.branches {
@@ -97,18 +100,19 @@ fn from_all(s: &[u8], rows: usize, n: usize) -> MeshAnswer
 }
 
 // 7 to 10 row by row, then 36, then what the rows join.
-fn tested(s: &[u8], rows: usize, n: usize) -> MeshAnswer
-    requires { ((r : ℕ) → r < rows → Stands s.now r) × (version_of s.now ≡ 3) × (0 < n) × (n ≤ 256) }
-    ensures { MeshRows MeshAnswer mesh_refusal s.now n rows
-        (Answered (first_end s.now) (second_end s.now) rows n) result }
+fn tested(s: &[u8], head: Head) -> MeshAnswer
+    requires { ((r : ℕ) → r < head.rows → Stands s.now r) × (version_of s.now ≡ 3)
+        × (0 < head.nodes) × (head.nodes ≤ 256) }
+    ensures { MeshRows MeshAnswer mesh_refusal s.now head.nodes head.rows
+        (Answered (first_end s.now) (second_end s.now) head.rows head.nodes) result }
 {
-    if let Some(bad) = rows::first_bad(s, n, rows) {
+    if let Some(bad) = rows::first_bad(s, head) {
         return refused(bad.number, bad.row);
     }
-    if let Some(r) = repeats::first_repeat(s, n, rows) {
+    if let Some(r) = repeats::first_repeat(s, head) {
         return refused(36, r);
     }
-    from_all(s, rows, n)
+    from_all(s, head)
 }
 
 pub fn mesh(s: &[u8]) -> MeshAnswer
@@ -116,6 +120,6 @@ pub fn mesh(s: &[u8]) -> MeshAnswer
 {
     match header::open(s) {
         Err(number) => refused(number, 0),
-        Ok(h) => tested(s, h.rows, h.nodes),
+        Ok(head) => tested(s, head),
     }
 }

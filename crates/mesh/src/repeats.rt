@@ -8,6 +8,7 @@ ghost use Rattle.mesh.specs.work.Rows.{MeshReadable};
 ghost use Rattle.mesh.specs.work.Bands.{NoRepeat};
 ghost use Rattle.mesh.specs.work.Repeat.{Cell, SlotOf, SeenAs, RepeatIn, Top, FirstRepeat};
 
+use crate::header::Head;
 use net::{first_end, second_end};
 
 // The cell of a row with these ends, the same either way round.
@@ -64,16 +65,16 @@ fn top(rows: usize) -> usize
 // The first row that repeats a pair. Never inlined, nor is from_all: what is noted here and the trees there would be on
 // the stack at once.
 #[inline(never)]
-pub(crate) fn first_repeat(s: &[u8], n: usize, rows: usize) -> Option<usize>
-    requires { MeshReadable s.now rows n }
-    ensures { MatchOption result (NoRepeat (first_end s.now) (second_end s.now) rows)
-        (λ r. FirstRepeat (first_end s.now) (second_end s.now) rows r) }
+pub(crate) fn first_repeat(s: &[u8], head: Head) -> Option<usize>
+    requires { MeshReadable s.now head.rows head.nodes }
+    ensures { MatchOption result (NoRepeat (first_end s.now) (second_end s.now) head.rows)
+        (λ r. FirstRepeat (first_end s.now) (second_end s.now) head.rows r) }
 {
-    let mut r = top(rows);
+    let mut r = top(head.rows);
     let mut from: usize = 0;
-    while from < 256 * n {
+    while from < 256 * head.nodes {
         r = repeat_in(s, from, r);
         from += 16384;
     }
-    if r < rows { Some(r) } else { None }
+    if r < head.rows { Some(r) } else { None }
 }

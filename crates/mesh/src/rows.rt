@@ -5,6 +5,7 @@ ghost use Rattle.table.specs.Row.{Stands};
 ghost use Rattle.table.specs.Examine.{RowNumber};
 ghost use Rattle.mesh.specs.work.Rows.{FirstBadRow};
 
+use crate::header::Head;
 use arrays::wide;
 
 // A row that is refused, and by which number.
@@ -38,13 +39,13 @@ fn row_number(s: &[u8], r: usize, n: usize) -> Option<u8>
 }
 
 // Every row in order.
-pub(crate) fn first_bad(s: &[u8], n: usize, rows: usize) -> Option<BadRow>
-    requires { ((r : ℕ) → r < rows → Stands s.now r) × (version_of s.now ≡ 3) }
-    ensures { MatchOption result ((r : ℕ) → r < rows → RowNumber n s.now r 0)
-        (λ t. FirstBadRow s.now n rows t.number t.row) }
+pub(crate) fn first_bad(s: &[u8], head: Head) -> Option<BadRow>
+    requires { ((r : ℕ) → r < head.rows → Stands s.now r) × (version_of s.now ≡ 3) }
+    ensures { MatchOption result ((r : ℕ) → r < head.rows → RowNumber head.nodes s.now r 0)
+        (λ t. FirstBadRow s.now head.nodes head.rows t.number t.row) }
 {
-    for r in 0..rows {
-        if let Some(number) = row_number(s, r, n) {
+    for r in 0..head.rows {
+        if let Some(number) = row_number(s, r, head.nodes) {
             return Some(BadRow { number, row: r });
         }
     }

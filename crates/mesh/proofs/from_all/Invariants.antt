@@ -6,5 +6,5 @@ use Rattle.mesh.proofs.from_all.Given as goal
 
 abbrev pub invariant-loop-a : goal.invariant-loop-a
 invariant-loop-a l =
-    Rooting (first_end l.s) (second_end l.s) l.rows l.n l.a l.branches l.low l.high
-    × HungAt (first_end l.s) (second_end l.s) l.rows l.n 0 l.tree.par l.tree.order l.tree.place
+    Rooting (first_end l.s) (second_end l.s) l.head.rows l.head.nodes l.a l.branches l.low l.high
+    × HungAt (first_end l.s) (second_end l.s) l.head.rows l.head.nodes 0 l.tree.par l.tree.order l.tree.place

@@ -15,8 +15,8 @@ loop-from-init c =
       here = λ h. absurd (omega arith);
     }
 
-pub overflow_mul-n : goal.overflow_mul-n
-overflow_mul-n c = omega (arith, c.requires.few)
+pub overflow_mul-head : goal.overflow_mul-head
+overflow_mul-head c = omega (arith, c.requires.few)
 
 pub repeat_in-r-requires : goal.repeat_in-r-requires
 repeat_in-r-requires c =
@@ -30,8 +30,8 @@ overflow_add-from c = omega (arith, c.loop-from.invariant.few)
 pub loop-from-preserved : goal.loop-from-preserved
 loop-from-preserved c = repeating_next c.loop-from.invariant c.repeat_in-r.ensures
 
-pub returns-then-r-rows : goal.returns-then-r-rows
-returns-then-r-rows c = (repeating_end c.loop-from.invariant (λ h. omega arith)).0 c.if-r-rows.true
+pub returns-then-r-head : goal.returns-then-r-head
+returns-then-r-head c = (repeating_end c.loop-from.invariant (λ h. omega arith)).0 c.if-r-head.true
 
-pub returns-else-r-rows : goal.returns-else-r-rows
-returns-else-r-rows c = (repeating_end c.loop-from.invariant (λ h. omega arith)).1 c.if-r-rows.false
+pub returns-else-r-head : goal.returns-else-r-head
+returns-else-r-head c = (repeating_end c.loop-from.invariant (λ h. omega arith)).1 c.if-r-head.false

@@ -6,7 +6,7 @@ use Prim.Native.Nat.{◌-◌}
 use Rattle.mesh.proofs.repeats.first_repeat.Given as goal
 
 abbrev pub invariant-loop-from : goal.invariant-loop-from
-invariant-loop-from l = Repeating (first_end l.s) (second_end l.s) l.rows l.n l.initial.r l.from l.r
+invariant-loop-from l = Repeating (first_end l.s) (second_end l.s) l.head.rows l.head.nodes l.initial.r l.from l.r
 
 abbrev pub decreases-loop-from : goal.decreases-loop-from
-decreases-loop-from l = 256 * l.n - l.from
+decreases-loop-from l = 256 * l.head.nodes - l.from

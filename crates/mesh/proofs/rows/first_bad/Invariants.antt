@@ -5,4 +5,4 @@ use Prim.Native.Nat.{ℕ, ◌<◌}
 use Rattle.mesh.proofs.rows.first_bad.Given as goal
 
 abbrev pub invariant-loop-r : goal.invariant-loop-r
-invariant-loop-r l = (i : ℕ) → i < l.r → RowNumber l.n l.s i 0
+invariant-loop-r l = (i : ℕ) → i < l.r → RowNumber l.head.nodes l.s i 0
