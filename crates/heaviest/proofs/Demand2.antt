@@ -13,21 +13,11 @@ use lib.Signed.{◌≤ℤ◌}
 use Rattle.table.specs.Refuse.{refused, passed}
 use Rattle.table.specs.Header.{nodes_of, bound_of}
 use Rattle.table.proofs.Refusals.{past}
-use Rattle.tree.specs.Accept.{Accepts}
-use Rattle.tree.specs.declared.Acceptance.TheVariants.{Accepted}
+use Rattle.tree.specs.Accept.{Accepts, acceptance}
 use Rattle.tree.proofs.Begins.{begins_past, begins_rest}
 use Rattle.pages.specs.Listing.{Entry, entry, Before}
-use Rattle.heaviest.specs.Heaviest.{
-  heaviest_refusal,
-  PairsWithin,
-  Heaviest,
-  Chooses,
-  HeaviestWithin,
-  HeaviestOf,
-  HeaviestExactOf,
-}
-use Rattle.heaviest.specs.declared.HeaviestAnswer.{HeaviestAnswer}
-use Rattle.heaviest.specs.declared.HeaviestAnswer.TheVariants.{Between, Refused}
+use Rattle.heaviest.specs.Heaviest.{HeaviestAnswer, heaviest_refusal, PairsWithin, Heaviest, Chooses, HeaviestWithin, HeaviestOf, HeaviestExactOf, between}
+use Rattle.std.specs.Prelude.{Ok, Err}
 
 -- the pairs of the table's net that pass the length test; within its bound; of exactly its length
 abbrev pub Passing : (ℕ → Type 0) → List ℕ → List ℕ → Entry → Type 0
@@ -50,24 +40,24 @@ module _ (Within : ℕ → Type 0) (s marks : List ℕ) where
   none_heavier e h f p = (h.best f p).weight
 
 abbrev number_in : HeaviestAnswer → ℕ
-number_in (Between a b l w) = 0
-number_in (Refused why) = why.number
+number_in (Ok o) = 0
+number_in (Err why) = why.number
 
 abbrev taken : HeaviestAnswer → ℕ
-taken (Between a b l w) = 1
-taken (Refused why) = 0
+taken (Ok o) = 1
+taken (Err why) = 0
 
 -- under any length test, `none` being the number given where no pair passes
 module _ (none : ℕ) (Within : ℕ → Type 0) (s marks : List ℕ) where
   -- THE RUN FOUND. Where nothing is refused, the answer is a pair that passes and is at least as good as every other
-  pub found_within : {a b l : ℕ} {w : ℤ} → HeaviestWithin none Within s marks (Between a b l w)
+  pub found_within : {a b l : ℕ} {w : ℤ} → HeaviestWithin none Within s marks (between a b l w)
       → Heaviest (Passing Within s marks) (entry a b l w)
   found_within {a} {b} {l} {w} p =
-      let plain : (k r g : ℕ) → heaviest_refusal k r g ≡ Between a b l w → ⊥ = λ k r g e. omega (arith, ap taken e) in
+      let plain : (k r g : ℕ) → heaviest_refusal k r g ≡ between a b l w → ⊥ = λ k r g e. omega (arith, ap taken e) in
       (past (plain none 0 0) (past (plain 13 0 0) (begins_past heaviest_refusal s plain p).1).1).1
 
   -- NONE EXACTLY. An accepted table with a mark for each branch is refused by `none` exactly if no pair passes
-  pub none_exactly : none ≢ 13 → Accepts s (Accepted (nodes_of s) (bound_of s)) → length marks ≡ nodes_of s - 1
+  pub none_exactly : none ≢ 13 → Accepts s (acceptance (nodes_of s) (bound_of s)) → length marks ≡ nodes_of s - 1
       → (o : HeaviestAnswer) → HeaviestWithin none Within s marks o
       → (o ≡ heaviest_refusal none 0 0) ↔ ((e : Entry) → ¬ Passing Within s marks e)
   none_exactly other a m o p = let g = begins_rest heaviest_refusal s a p in (only o g, if o g)
@@ -86,7 +76,7 @@ module _ (none : ℕ) (Within : ℕ → Type 0) (s marks : List ℕ) where
 
 -- both modes
 module _ (s marks : List ℕ) where
-  pub found_best : {a b l : ℕ} {w : ℤ} → HeaviestOf s marks (Between a b l w)
+  pub found_best : {a b l : ℕ} {w : ℤ} → HeaviestOf s marks (between a b l w)
       → Heaviest (InReach s marks) (entry a b l w)
   found_best = found_within 16 (λ l. l ≤ bound_of s) s marks
 
@@ -94,12 +84,12 @@ module _ (s marks : List ℕ) where
       → (e.low < e.high) × (e.high < nodes_of s) × (e.length ≤ bound_of s)
   run_joins = run_passes (λ l. l ≤ bound_of s) s marks
 
-  pub sixteen_exactly : Accepts s (Accepted (nodes_of s) (bound_of s)) → length marks ≡ nodes_of s - 1
+  pub sixteen_exactly : Accepts s (acceptance (nodes_of s) (bound_of s)) → length marks ≡ nodes_of s - 1
       → (o : HeaviestAnswer) → HeaviestOf s marks o
       → (o ≡ heaviest_refusal 16 0 0) ↔ ((e : Entry) → ¬ InReach s marks e)
   sixteen_exactly = none_exactly 16 (λ l. l ≤ bound_of s) s marks (λ e. omega (arith, e))
 
-  pub exact_best : {a b l : ℕ} {w : ℤ} → HeaviestExactOf s marks (Between a b l w)
+  pub exact_best : {a b l : ℕ} {w : ℤ} → HeaviestExactOf s marks (between a b l w)
       → Heaviest (AtBound s marks) (entry a b l w)
   exact_best = found_within 21 (λ l. l ≡ bound_of s) s marks
 
@@ -112,7 +102,7 @@ module _ (s marks : List ℕ) where
       → (f.weight ≤ℤ e.weight) × (f.weight ≡ e.weight → ¬ Before f e)
   exact_earliest e h f p = ((h.best f p).weight, λ q. (h.best f p).pair q (p.short ∙ sym h.one.short))
 
-  pub twenty_one_exactly : Accepts s (Accepted (nodes_of s) (bound_of s)) → length marks ≡ nodes_of s - 1
+  pub twenty_one_exactly : Accepts s (acceptance (nodes_of s) (bound_of s)) → length marks ≡ nodes_of s - 1
       → (o : HeaviestAnswer) → HeaviestExactOf s marks o
       → (o ≡ heaviest_refusal 21 0 0) ↔ ((e : Entry) → ¬ AtBound s marks e)
   twenty_one_exactly = none_exactly 21 (λ l. l ≡ bound_of s) s marks (λ e. omega (arith, e))

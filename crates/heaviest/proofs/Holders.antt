@@ -9,16 +9,15 @@ use Rattle.table.proofs.Refusals.{unless_map, unless_alike}
 use Rattle.tree.proofs.Begins.{begins_alike}
 use Rattle.marks.proofs.Weights.{Alike}
 use Rattle.pages.specs.Listing.{Entry}
-use Rattle.heaviest.specs.Heaviest.{heaviest_refusal, PairsWithin, GivesHeaviest, Chooses, HeaviestWithin}
-use Rattle.heaviest.specs.declared.HeaviestAnswer.{HeaviestAnswer}
-use Rattle.heaviest.specs.declared.HeaviestAnswer.TheVariants.{Between, Refused}
+use Rattle.heaviest.specs.Heaviest.{HeaviestAnswer, heaviest_refusal, PairsWithin, GivesHeaviest, Chooses, HeaviestWithin}
+use Rattle.std.specs.Prelude.{Ok, Err}
 use Rattle.ground.proofs.Alike.{passes_alike, flip}
 use Rattle.heaviest.proofs.Only.{goes_only}
 
 gives_alike : {P Q : Entry → Type 0} → ((e : Entry) → P e → Q e) → ((e : Entry) → Q e → P e)
     → (x : HeaviestAnswer) → GivesHeaviest P x → GivesHeaviest Q x
-gives_alike f g (Between a b l w) p = record { one = f _ p.one; best = λ e q. p.best e (g e q) }
-gives_alike f g (Refused why) p = p
+gives_alike f g (Ok o) p = record { one = f _ p.one; best = λ e q. p.best e (g e q) }
+gives_alike f g (Err why) p = p
 
 module _ (none : ℕ) (Within : ℕ → Type 0) (s marks marks' : List ℕ) (h : Alike marks marks')
     (e : length marks ≡ length marks') where

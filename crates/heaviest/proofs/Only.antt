@@ -13,17 +13,8 @@ use Rattle.table.proofs.Refusals.{unless_only}
 use Rattle.tree.proofs.Begins.{begins_only}
 use Rattle.pages.specs.Listing.{Entry, entry}
 use Rattle.pages.proofs.Order.{one_pair}
-use Rattle.heaviest.specs.Heaviest.{
-  heaviest_refusal,
-  AtLeast,
-  Heaviest,
-  GivesHeaviest,
-  Chooses,
-  HeaviestWithin,
-  HeaviestOf,
-  HeaviestExactOf,
-}
-use Rattle.heaviest.specs.declared.HeaviestAnswer.TheVariants.{Between, Refused}
+use Rattle.heaviest.specs.Heaviest.{heaviest_refusal, AtLeast, Heaviest, GivesHeaviest, Chooses, HeaviestWithin, HeaviestOf, HeaviestExactOf, between}
+use Rattle.std.specs.Prelude.{Ok, Err}
 
 pub level : (y z : ℤ) → y ≤ℤ z → z ≤ℤ y → y ≡ z
 level (pos m) (pos n) h k = ap pos (omega (arith, leb→le m n h.le, leb→le n m k.le))
@@ -41,11 +32,11 @@ heaviest_run_only P e f p q =
     λ i. record { low = c.0 i; high = c.1 i; length = l i; weight = w i }
 
 gives_only : (P : Entry → Type 0) → Only (GivesHeaviest P)
-gives_only P (Between a b l w) (Between c d k z) p q =
-    let e = heaviest_run_only P (entry a b l w) (entry c d k z) p q in
-    λ i. Between (e i).low (e i).high (e i).length (e i).weight
-gives_only P (Between a b l w) (Refused why) p q = absurd q
-gives_only P (Refused why) y p q = absurd p
+gives_only P (Ok o) (Ok o') p q =
+    let e = heaviest_run_only P (entry o.low o.high o.length o.weight) (entry o'.low o'.high o'.length o'.weight) p q in
+    λ i. between (e i).low (e i).high (e i).length (e i).weight
+gives_only P (Ok o) (Err why) p q = absurd q
+gives_only P (Err why) y p q = absurd p
 
 pub goes_only : (none : ℕ) (Within : ℕ → Type 0) (s : List ℕ) (n : ℕ) (marks : List ℕ)
     → Only (Chooses none Within s n marks)

@@ -1,16 +1,23 @@
 -- The operations heaviest and heaviest_exact: refusals 1 to 11, then 13, then 16 or 21; then the heaviest run.
-use Rattle.std.specs.Prelude.{ℕ, ◌-◌, ◌≤◌, ◌≡◌, List, length, ◌≤ℤ◌}
+use Rattle.std.specs.Prelude.{ℕ, ◌-◌, ◌≤◌, ◌≡◌, List, length, ◌≤ℤ◌, ℤ, Result, Ok, Err}
 use Rattle.table.specs.Refuse.{Unless}
 use Rattle.table.specs.Header.{nodes_of, bound_of}
 use Rattle.tree.specs.Accept.{Begins}
 use Rattle.pages.specs.Listing.{Entry, entry, Before}
 use Rattle.pages.specs.Passes.{Passes}
 use Rattle.ground.specs.PathOf.{PathOf}
-use Rattle.heaviest.specs.declared.HeaviestAnswer.{HeaviestAnswer}
-use Rattle.heaviest.specs.declared.HeaviestAnswer.TheVariants.{Between, Refused}
+use Rattle.tree.specs.declared.Refusal.{Refusal}
+use Rattle.heaviest.specs.declared.Between.{Between}
+
+-- the heaviest run: its nodes, length and weight; or why none
+abbrev pub HeaviestAnswer : Type 0
+HeaviestAnswer = Result Between Refusal
+
+abbrev pub between : ℕ → ℕ → ℕ → ℤ → HeaviestAnswer
+between a b l w = Ok (record { low = a; high = b; length = l; weight = w })
 
 abbrev pub heaviest_refusal : ℕ → ℕ → ℕ → HeaviestAnswer
-heaviest_refusal k r g = Refused (record { number = k; row = r; ring = g })
+heaviest_refusal k r g = Err (record { number = k; row = r; ring = g })
 
 -- the pairs of the net of n nodes within the length test, of any weight
 abbrev pub PairsWithin : (ℕ → Type 0) → List ℕ → List ℕ → ℕ → Entry → Type 0
@@ -28,8 +35,8 @@ pub record Heaviest (P : Entry → Type 0) (e : Entry) : Type 0 where
   pub best : (f : Entry) → P f → AtLeast e f
 
 abbrev pub GivesHeaviest : (Entry → Type 0) → HeaviestAnswer → Type 0
-GivesHeaviest P (Between a b l w) = Heaviest P (entry a b l w)
-GivesHeaviest P (Refused why) = ⊥
+GivesHeaviest P (Ok o) = Heaviest P (entry o.low o.high o.length o.weight)
+GivesHeaviest P (Err why) = ⊥
 
 -- 13, then `none` where no pair is within the length test, then the heaviest run, of a net of n nodes
 abbrev pub Chooses : ℕ → (ℕ → Type 0) → List ℕ → ℕ → List ℕ → HeaviestAnswer → Type 0

@@ -7,48 +7,36 @@ ghost use Rattle.table.specs.Header.{bound_of};
 ghost use Rattle.net.specs.work.Net.{Net};
 ghost use Rattle.limits.specs.work.Fits.{Within, Fits};
 ghost use Rattle.layout.specs.work.BestPair.{BestPair};
-ghost use Rattle.heaviest.specs.Heaviest.{heaviest_refusal, Chooses, HeaviestWithin, HeaviestOf, HeaviestExactOf};
+ghost use Rattle.heaviest.specs.Heaviest.{Chooses, HeaviestWithin, HeaviestOf, HeaviestExactOf};
 ghost use Rattle.ground.specs.PathOf.{PathOf};
 
 use ground::grounded;
 use limits::Limit;
 use parts::KEY_LIFT;
+use reach::Walk;
 use spans::Best;
-use tree::{Acceptance, Refusal};
+use tree::Refusal;
 
-// What heaviest gives: the two nodes, lower first, with the length and the weight of their path; or why not.
-#[derive(Drop)]
-pub enum HeaviestAnswer {
-    Between {
-        low: u16,
-        high: u16,
-        length: u32,
-        weight: i64,
-    },
-    Refused(Refusal),
+// The two nodes, lower first, with the length and the weight of their path.
+#[derive(Clone, Copy)]
+pub struct Between {
+    pub low: u16,
+    pub high: u16,
+    pub length: u32,
+    pub weight: i64,
 }
 
-fn refused_by(number: u8) -> HeaviestAnswer
-    ensures { result ≡ heaviest_refusal number 0 0 }
-{
-    HeaviestAnswer::Refused(Refusal {
-        number,
-        row: 0,
-        ring: 0,
-    })
-}
+// What heaviest gives.
+pub type HeaviestAnswer = Result<Between, Refusal>;
 
-// The best pair of an accepted net, its length and weight lifted by 2^40; weight 0 is none. The four arrays lent are
-// for the walk; half then serves for the heads.
+// The best pair of an accepted net, its length and weight lifted by 2^40; weight 0 is none. Of the walk half
+// then serves for the heads.
 fn search(
     s: &[u8],
     marks: &[u16],
     nodes: u16,
     limit: Limit,
-    parent: &mut [u16; 4096],
-    half: &mut [u16; 4096],
-    order: &mut [u16; 4096],
-    place: &mut [u16; 4096],
+    walk: &mut Walk,
 ) -> Best
     requires net { Net s.now nodes }
     requires most_bound { limit.most < 4294967296 }
@@ -56,11 +44,8 @@ fn search(
 {
     let mut bl: [u64; 4096] = [0; 4096];
     let mut bw: [u64; 4096] = [0; 4096];
-    grounded(
-        s, marks, nodes, parent, half, order, place, &mut bl, &mut bw,
-    );
-    let n = arrays::wide(nodes);
-    layout::heaviest_pair(parent, half, order, place, &mut bl, &mut bw, n, limit)
+    grounded(s, marks, nodes, walk, &mut bl, &mut bw);
+    layout::heaviest_pair(walk, &mut bl, &mut bw, usize::from(nodes), limit)
 }
 
 // 13, then `none` where no pair fits the limit, then the heaviest run, of an accepted net.
@@ -70,33 +55,34 @@ fn choose(
     nodes: u16,
     limit: Limit,
     none: u8,
-    parent: &mut [u16; 4096],
-    half: &mut [u16; 4096],
-    order: &mut [u16; 4096],
-    place: &mut [u16; 4096],
+    walk: &mut Walk,
 ) -> HeaviestAnswer
     requires net { Net s.now nodes }
     requires most_bound { limit.most < 4294967296 }
     ensures { Chooses none (Fits limit) s.now nodes marks.now result }
 {
-    let n = arrays::wide(nodes);
+    let n = usize::from(nodes);
     if marks.len() != n - 1 {
-        return refused_by(13);
+        return Err(Refusal::MARKS);
     }
-    let b = search(s, marks, nodes, limit, parent, half, order, place);
+    let b = search(s, marks, nodes, limit, walk);
     if b.weight == 0 {
-        return refused_by(none);
+        return Err(Refusal {
+            number: none,
+            row: 0,
+            ring: 0,
+        });
     }
     let low = b.low as u16;
     let high = b.high as u16;
     let length = (b.length - KEY_LIFT) as u32;
     let weight = table::lowered(b.weight + table::SUM_LIFT - KEY_LIFT);
-    HeaviestAnswer::Between {
+    Ok(Between {
         low,
         high,
         length,
         weight,
-    }
+    })
 }
 
 // The heaviest run of the net in table s under the marks.
@@ -118,30 +104,12 @@ fn heaviest_in_mode(s: &[u8], marks: &[u16], exact: bool, none: u8) -> HeaviestA
     ensures { HeaviestWithin none (Within exact (bound_of s.now)) s.now marks.now
         result }
 {
-    // The walk's arrays, which acceptance uses before there is a walk.
-    let mut parent: [u16; 4096] = [0; 4096];
-    let mut half: [u16; 4096] = [0; 4096];
-    let mut order: [u16; 4096] = [0; 4096];
-    let mut place: [u16; 4096] = [0; 4096];
-    let o = tree::accept_in(s, &mut parent, &mut half, &mut order, &mut place);
-    match o {
-        Acceptance::Refused(why) => HeaviestAnswer::Refused(why),
-        Acceptance::Accepted { nodes, bound } => {
-            let limit = Limit {
-                most: arrays::long(bound),
-                exact,
-            };
-            choose(
-                s,
-                marks,
-                nodes,
-                limit,
-                none,
-                &mut parent,
-                &mut half,
-                &mut order,
-                &mut place,
-            )
-        }
-    }
+    // Acceptance uses the walk's arrays before there is a walk.
+    let mut walk = Walk::new();
+    let net = tree::accept_in(s, &mut walk)?;
+    let limit = Limit {
+        most: u64::from(net.bound),
+        exact,
+    };
+    choose(s, marks, net.nodes, limit, none, &mut walk)
 }

@@ -3,7 +3,7 @@ ghost use Rattle.std.specs.Prelude.{ℕ, ◌+◌, ◌≤◌, ◌<◌};
 ghost use Rattle.arrays.specs.At.{at};
 ghost use Rattle.layout.specs.work.Laid.{Spots, Laid};
 
-use arrays::{fill, fill_long, wide};
+use arrays::{fill, fill_long};
 
 // The name of each spot: the node whose spot it is.
 pub(crate) fn lay_names(spot: &[u16; 4096], n: usize, names: &mut [u16; 4096])
@@ -12,7 +12,7 @@ pub(crate) fn lay_names(spot: &[u16; 4096], n: usize, names: &mut [u16; 4096])
 {
     fill(names, 0);
     for v in 0..n {
-        names[wide(spot[v])] = v as u16;
+        names[usize::from(spot[v])] = v as u16;
     }
 }
 
@@ -25,7 +25,7 @@ pub(crate) fn lay_stops(spot: &[u16; 4096], size: &[u16; 4096], n: usize, stops:
 {
     fill(stops, 0);
     for v in 0..n {
-        stops[wide(spot[v])] = spot[v] + size[v];
+        stops[usize::from(spot[v])] = spot[v] + size[v];
     }
 }
 
@@ -38,7 +38,7 @@ pub(crate) fn lay_spots(spot: &[u16; 4096], from: &[u16; 4096], n: usize, to: &m
 {
     fill(to, 0);
     for v in 1..n {
-        to[wide(spot[v])] = spot[wide(from[v])];
+        to[usize::from(spot[v])] = spot[usize::from(from[v])];
     }
 }
 
@@ -49,6 +49,6 @@ pub(crate) fn lay_long(spot: &[u16; 4096], from: &[u64; 4096], n: usize, to: &mu
 {
     fill_long(to, 0);
     for v in 0..n {
-        to[wide(spot[v])] = from[v];
+        to[usize::from(spot[v])] = from[v];
     }
 }

@@ -20,6 +20,7 @@ use crate::seats::seats;
 use limits::Limit;
 use parts::{KEY_LIFT, whole};
 use paths::paths_from;
+use reach::Walk;
 use spans::Best;
 use spines::{heads_of, sizes_of};
 
@@ -77,23 +78,19 @@ fn lay_out(
 }
 
 // Between crates: the heaviest pair of nodes whose path's length fits the limit. bl and bw hold, for each node but 0,
-// the length and the lifted weight of the branch to its parent; head is lent for the heads. Each array serves again
+// the length and the lifted weight of the branch to its parent; half is lent for the heads. Each array serves again
 // once it is not read any more, so what the lent ones held is lost. The answer's length and weight are lifted by 2^40;
 // weight 0 is none.
 pub fn heaviest_pair(
-    parent: &mut [u16; 4096],
-    head: &mut [u16; 4096],
-    order: &mut [u16; 4096],
-    place: &mut [u16; 4096],
+    walk: &mut Walk,
     bl: &mut [u64; 4096],
     bw: &mut [u64; 4096],
     n: usize,
     limit: Limit,
 ) -> Best
-    requires ground { Ground n parent.old order.old place.old bl.old bw.old }
+    requires ground { Ground n walk.old.parent walk.old.order walk.old.place bl.old bw.old }
     requires most_bound { limit.most < 4294967296 }
-    ensures { (g : Ground n parent.old order.old place.old bl.old
-        bw.old)
+    ensures { (g : Ground n walk.old.parent walk.old.order walk.old.place bl.old bw.old)
         → BestPair (Value g.u g.v g.k g.long g.heavy) n (Fits limit) result }
 {
     let mut size: [u16; 4096] = [0; 4096];
@@ -103,27 +100,54 @@ pub fn heaviest_pair(
     let mut w: [u64; 4096] = [0; 4096];
     // next has the flags of the paths, then main children, then next free spots.
     paths_from(
-        parent, order, place, bl, bw, n, 0, &mut next, &mut d, &mut w,
+        &walk.parent,
+        &walk.order,
+        &walk.place,
+        bl,
+        bw,
+        n,
+        0,
+        &mut next,
+        &mut d,
+        &mut w,
     );
     number(
-        parent, order, place, n, head, &mut size, &mut spot, &mut next,
+        &walk.parent,
+        &walk.order,
+        &walk.place,
+        n,
+        &mut walk.half,
+        &mut size,
+        &mut spot,
+        &mut next,
     );
-    // By spot: where spans end in order, heads in size, parents in head, names in parent, distances in bl, weights in
+    // By spot: where spans end in order, heads in size, parents in half, names in parent, distances in bl, weights in
     // bw.
-    lay_out(parent, head, &mut size, &spot, &d, &w, n, order, bl, bw);
+    lay_out(
+        &mut walk.parent,
+        &mut walk.half,
+        &mut size,
+        &spot,
+        &d,
+        &w,
+        n,
+        &mut walk.order,
+        bl,
+        bw,
+    );
     // The two lists in spot and next, their keys in d and w, the spare list in place.
     whole(
-        order,
+        &walk.order,
         &size,
-        head,
-        parent,
+        &walk.half,
+        &walk.parent,
         bl,
         bw,
         &mut spot,
         &mut next,
         &mut d,
         &mut w,
-        place,
+        &mut walk.place,
         n,
         Limit {
             most: limit.most + KEY_LIFT,

@@ -6,7 +6,7 @@ ghost use Rattle.reach.specs.work.Grown.{Grown};
 ghost use Rattle.spines.specs.work.Parents.{SizesAll};
 ghost use Rattle.layout.specs.work.Seats.{SeatRoom, Seated, Seating};
 
-use arrays::{fill, wide};
+use arrays::fill;
 
 // A node's spot, and its parent's next free spot.
 #[derive(Drop)]
@@ -60,8 +60,8 @@ pub(crate) fn seats(
     fill(spot, 0);
     fill(next, 1);
     for i in 1..n {
-        let v = wide(order[i]);
-        let p = wide(parent[v]);
+        let v = usize::from(order[i]);
+        let p = usize::from(parent[v]);
         let t = seat_of(head, size, spot, next, p, v);
         spot[v] = t.spot;
         next[p] = t.next;

@@ -11,13 +11,12 @@ use Rattle.heaviest.proofs.choose.Goals as goal
 
 pub returns-then-marks-n : goal.returns-then-marks-n
 returns-then-marks-n c =
-    rw c.refused_by.ensures (refused (λ h. c.if-marks-n.true (omega (arith, c.wide-n.ensures))))
+    (refused (λ h. c.if-marks-n.true (omega (arith, c.from-n.ensures))))
 
 pub returns-then-b-eq0 : goal.returns-then-b-eq0
 returns-then-b-eq0 c =
-    let wide-ensures = c.wide-n.ensures in
+    let wide-ensures = c.from-n.ensures in
     let args = c.args in
-    rw c.refused_by-then-b-eq0.ensures
     (passed (omega (arith, wide-ensures))
     (refused (none_within _ args.marks.now c.requires.net c.search-b.ensures (omega arith))))
 
@@ -63,7 +62,7 @@ returns c =
     let search-ensures = c.search-b.ensures in
     let search-result = c.search-b.result in
     let if1-left = c.if-marks-n.false in
-    let wide-ensures = c.wide-n.ensures in
+    let wide-ensures = c.from-n.ensures in
     let args = c.args in
     let m : search-result.weight ≢ 0 = omega arith in
     let r = run_given _ args.marks.now c.requires.net search-ensures m _ c.lowered-weight.ensures in

@@ -5,12 +5,12 @@ use Rattle.heaviest.proofs.search.Goals as goal
 
 pub heaviest_pair-requires : goal.heaviest_pair-requires
 heaviest_pair-requires c =
-    let wide-ensures = c.wide-n.ensures in
+    let wide-ensures = c.from.ensures in
     let grounded-ensures = c.grounded.ensures in
-    record { ground = rw wide-ensures.0 (ground grounded-ensures); most_bound = c.requires.most_bound }
+    record { ground = rw wide-ensures (ground grounded-ensures); most_bound = c.requires.most_bound }
 
 pub returns : goal.returns
 returns c =
     let grounded-ensures = c.grounded.ensures in
-    let e = c.wide-n.ensures.0 in
+    let e = c.from.ensures in
     rw e at (c.heaviest_pair.ensures (rw e (ground grounded-ensures)))

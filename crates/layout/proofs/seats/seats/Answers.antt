@@ -17,30 +17,30 @@ pub seat_of-t-requires-clause-seat_room : goal.seat_of-t-requires-clause-seat_ro
 seat_of-t-requires-clause-seat_room c =
     let h = c.loop-i.invariant in
     let l : c.loop-i.i < c.args.n = omega arith in
-    seat_room h.2 _ h.3 _ _ _ _ _ h.0 l c.wide-v.ensures.0 c.wide-p.ensures.0 h.4
+    seat_room h.2 _ h.3 _ _ _ _ _ h.0 l c.from-v.ensures c.from-p.ensures h.4
 
 pub overflow_add-next : goal.overflow_add-next
 overflow_add-next c =
-    let wide2-ensures = c.wide-p.ensures in
-    let wide-ensures = c.wide-v.ensures in
+    let wide2-ensures = c.from-p.ensures in
+    let wide-ensures = c.from-v.ensures in
     let l : c.loop-i.i < c.args.n = omega arith in
     let h = c.loop-i.invariant in
     omega (
       arith,
-      seat_fits h.2 _ h.3 _ _ _ _ _ h.0 l wide-ensures.0 wide2-ensures.0 h.4 _ _
+      seat_fits h.2 _ h.3 _ _ _ _ _ h.0 l wide-ensures wide2-ensures h.4 _ _
           c.seat_of-t.ensures,
     )
 
 pub loop-i-preserved : goal.loop-i-preserved
 loop-i-preserved c =
-    let wide2-ensures = c.wide-p.ensures in
-    let wide-ensures = c.wide-v.ensures in
+    let wide2-ensures = c.from-p.ensures in
+    let wide-ensures = c.from-v.ensures in
     let l : c.loop-i.i < c.args.n = omega arith in
     let h = c.loop-i.invariant in (
       omega arith,
       omega arith,
       h.2,
       h.3,
-      seating_next h.2 _ h.3 _ _ _ _ _ h.0 l wide-ensures.0 wide2-ensures.0 h.4 _ _
+      seating_next h.2 _ h.3 _ _ _ _ _ h.0 l wide-ensures wide2-ensures h.4 _ _
           c.seat_of-t.ensures,
     )
