@@ -1,5 +1,4 @@
 -- `pairs` puts the line of each row after the lines of the rows before it.
-use Prim.Native.Nat.{◌-◌}
 use Rattle.lines.proofs.Lining.{Lining}
 use Rattle.lines.proofs.pairs.Given as goal
 
