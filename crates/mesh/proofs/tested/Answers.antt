@@ -13,7 +13,9 @@ pub first_repeat-requires : goal.first_repeat-requires
 first_repeat-requires c = rows_readable c.args.s.now c.in_default.ensures c.requires.0 c.requires.3
 
 pub returns-in-Some-first_repeat : goal.returns-in-Some-first_repeat
-returns-in-Some-first_repeat c = rw c.refused-in-Some-first_repeat.ensures (rows_passed c.args.s.now c.in_default.ensures (repeat_refused c.in-Some-first_repeat.ensures))
+returns-in-Some-first_repeat c =
+    rw c.refused-in-Some-first_repeat.ensures
+    (rows_passed c.args.s.now c.in_default.ensures (repeat_refused c.in-Some-first_repeat.ensures))
 
 pub from_all-requires : goal.from_all-requires
 from_all-requires c =
@@ -21,4 +23,6 @@ from_all-requires c =
     (rows_readable c.args.s.now c.in_default.ensures pre.0 pre.3, pre.2, c.in_default-first_repeat.ensures)
 
 pub returns : goal.returns
-returns c = rows_passed c.args.s.now c.in_default.ensures (repeat_passed c.in_default-first_repeat.ensures c.from_all.ensures)
+returns c =
+    rows_passed c.args.s.now c.in_default.ensures
+    (repeat_passed c.in_default-first_repeat.ensures c.from_all.ensures)

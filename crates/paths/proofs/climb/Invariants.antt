@@ -8,8 +8,8 @@ use Rattle.paths.proofs.climb.Given as goal
 
 abbrev pub invariant-loop-x : goal.invariant-loop-x
 invariant-loop-x l =
-    Climbing l.n l.a l.parent l.place l.bl l.bw l.x l.length l.weight l.above × Climbable l.n l.a l.parent l.place l.bl l.bw ×
-    (l.x < 4096)
+    Climbing l.n l.a l.parent l.place l.bl l.bw l.x l.length l.weight l.above
+    × Climbable l.n l.a l.parent l.place l.bl l.bw × (l.x < 4096)
 
 abbrev pub decreases-loop-x : goal.decreases-loop-x
 decreases-loop-x l = at l.place l.x

@@ -7,5 +7,5 @@ use Rattle.paths.proofs.sweep.Given as goal
 
 abbrev pub invariant-loop-i : goal.invariant-loop-i
 invariant-loop-i l =
-    Sweeping l.n l.a l.fn.top.length l.fn.top.weight l.parent l.order l.bl l.bw l.above l.i l.len l.wt × Sweepable l.n l.a l.fn.top.length l.fn.top.weight l.parent
-    l.order l.bl l.bw l.above × (0 < l.i)
+    Sweeping l.n l.a l.fn.top.length l.fn.top.weight l.parent l.order l.bl l.bw l.above l.i l.len l.wt
+    × Sweepable l.n l.a l.fn.top.length l.fn.top.weight l.parent l.order l.bl l.bw l.above × (0 < l.i)

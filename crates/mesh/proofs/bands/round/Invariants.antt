@@ -8,7 +8,8 @@ use Rattle.mesh.proofs.bands.round.Given as goal
 
 abbrev pub invariant-loop-x : goal.invariant-loop-x
 invariant-loop-x l =
-    (u v : ℕ → ℕ) (k n a : ℕ) (order : List ℕ) (r : ℕ) → Round u v k n a l.tree.par order l.tree.place r l.p l.q l.initial.over
+    (u v : ℕ → ℕ) (k n a : ℕ) (order : List ℕ) (r : ℕ)
+    → Round u v k n a l.tree.par order l.tree.place r l.p l.q l.initial.over
     → Climb u v k n a l.tree.par order l.tree.place r l.band l.x l.y l.over
 
 abbrev pub decreases-loop-x : goal.decreases-loop-x
