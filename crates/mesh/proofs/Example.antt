@@ -22,14 +22,13 @@ use Rattle.net.proofs.RingExactly.{fresh, once}
 use Rattle.net.proofs.OneRing.{one_ring}
 use Rattle.net.proofs.Short.{path_rows}
 use Rattle.mesh.specs.Mesh.{RepeatsPair, Connected, OneRing, PathWith, Longest}
-use Rattle.mesh.specs.Answer.{Answered}
-use Rattle.mesh.specs.declared.MeshAnswer.TheVariants.{Most}
+use Rattle.mesh.specs.Answer.{Answered, most}
 use Rattle.mesh.specs.work.Rows.{EndsApart}
 use Rattle.mesh.proofs.Rings.{walk_each}
 use Rattle.mesh.proofs.Theorems.{few_branches}
 
 -- ONE NODE
-pub one_node : (u v : ℕ → ℕ) → Answered u v 0 1 (Most 0 0 0)
+pub one_node : (u v : ℕ → ℕ) → Answered u v 0 1 (most 0 0 0)
 one_node u v = fine (λ r h. absurd (omega arith)) (passed joined (passed one longest))
   where
     joined : Connected u v 0 1
@@ -314,5 +313,5 @@ module _ {u v : ℕ → ℕ} (D : Drawn u v) where
       first x y p (yes e) = inr (sym e, there (omega arith) p)
       first x y p (no n) = inl (omega arith)
 
-  pub answer : Answered u v 4 4 (Most 3 0 3)
+  pub answer : Answered u v 4 4 (most 3 0 3)
   answer = fine (λ r h. passed (no_pair r h) refl) (passed joined (passed one longest))

@@ -14,8 +14,7 @@ use Rattle.table.specs.Examine.{RowNumber}
 use Rattle.table.proofs.Refusals.{past, unless_map}
 use Rattle.net.specs.Net.{first_end, second_end}
 use Rattle.mesh.specs.Table.{rows_of, MeshHeader, MeshRows}
-use Rattle.mesh.specs.Answer.{mesh_refusal, MeshJoined, Answered, MeshOf}
-use Rattle.mesh.specs.declared.MeshAnswer.{MeshAnswer}
+use Rattle.mesh.specs.Answer.{MeshAnswer, mesh_refusal, MeshJoined, Answered, MeshOf}
 use Rattle.mesh.specs.work.Head.{good_head, HeadTold}
 use Rattle.mesh.specs.declared.header.Head.{Head}
 use Rattle.std.specs.Prelude.{Result, Ok, Err}

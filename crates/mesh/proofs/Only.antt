@@ -12,9 +12,8 @@ use Rattle.table.proofs.Accepted.{row_number_only}
 use Rattle.net.specs.Net.{first_end, second_end}
 use Rattle.mesh.specs.Table.{rows_of, MeshHeader}
 use Rattle.mesh.specs.Mesh.{Longest}
-use Rattle.mesh.specs.Answer.{mesh_refusal, GivesLongest, MeshJoined, Answered, MeshOf}
-use Rattle.mesh.specs.declared.MeshAnswer.{MeshAnswer}
-use Rattle.mesh.specs.declared.MeshAnswer.TheVariants.{Most, Refused}
+use Rattle.mesh.specs.Answer.{MeshAnswer, mesh_refusal, GivesLongest, MeshJoined, Answered, MeshOf, most}
+use Rattle.std.specs.Prelude.{Ok, Err}
 
 -- of two pairs that are each first, either way round
 first_both : {a b c d : ℕ} → (a < c) ⊎ ((a ≡ c) × (b ≤ d)) → (c < a) ⊎ ((c ≡ a) × (d ≤ b)) → (a ≡ c) × (b ≡ d)
@@ -37,10 +36,10 @@ module _ {u v : ℕ → ℕ} {k n : ℕ} where
       (e, f.0, f.1)
 
 gives_only : (u v : ℕ → ℕ) (k n : ℕ) → Only (GivesLongest u v k n)
-gives_only u v k n (Most l a b) (Most m c d) p q =
-    let e = longest_only p q in λ i. Most (e.0 i) (e.1 i) (e.2 i)
-gives_only u v k n (Most l a b) (Refused w) p q = absurd q
-gives_only u v k n (Refused w) y p q = absurd p
+gives_only u v k n (Ok o) (Ok o') p q =
+    let e = longest_only p q in λ i. most (e.0 i) (e.1 i) (e.2 i)
+gives_only u v k n (Ok o) (Err w) p q = absurd q
+gives_only u v k n (Err w) y p q = absurd p
 
 joins_only : (u v : ℕ → ℕ) (k n : ℕ) → Only (MeshJoined u v k n)
 joins_only u v k n = unless_only (unless_only (gives_only u v k n))

@@ -11,8 +11,7 @@ use Rattle.table.specs.Refuse.{refused, passed}
 use Rattle.net.specs.Graph.{stop}
 use Rattle.net.proofs.Joined.{joined_mono}
 use Rattle.mesh.specs.Mesh.{Connected, OneRing, PathWith, Longest}
-use Rattle.mesh.specs.Answer.{mesh_refusal, MeshJoined}
-use Rattle.mesh.specs.declared.MeshAnswer.TheVariants.{Most}
+use Rattle.mesh.specs.Answer.{mesh_refusal, MeshJoined, most}
 use Rattle.mesh.specs.work.Hung.{HungAt}
 use Rattle.mesh.specs.work.Roots.{FromRoot}
 use Rattle.mesh.proofs.Rings.{tree_path, own_low}
@@ -106,7 +105,7 @@ module _ {u v : ℕ → ℕ} {k n a best low high : ℕ} (s : Rooting u v k n a 
       first x y h t (no e) = absurd (omega (arith, s.most x y l (omega arith) t))
 
 pub rooting_end : {u v : ℕ → ℕ} {k n a best low high : ℕ} {par order place : List ℕ} → Rooting u v k n a best low high
-    → HungAt u v k n 0 par order place → ¬ (a < n) → MeshJoined u v k n (Most best low high)
+    → HungAt u v k n 0 par order place → ¬ (a < n) → MeshJoined u v k n (most best low high)
 rooting_end {u} {v} {k} {n} {a} {best} {low} {high} s h q = passed (whole h) (passed (s.one some) longest)
   where
     some : 0 < a

@@ -9,8 +9,7 @@ use native.Mathlib.Omega.{arith}
 use lib.ListN.{length}
 use Rattle.table.specs.Refuse.{Unless, refused, passed}
 use Rattle.table.specs.Header.{Lettered, Header, version_of, nodes_of}
-use Rattle.table.specs.Opens.{opening_refusal, Opens}
-use Rattle.table.specs.declared.Opening.{Opening}
+use Rattle.table.specs.Opens.{opening_refusal, Opens, Opening}
 use Rattle.table.proofs.Refusals as refusals
 use Rattle.net.specs.Graph.{First, Ends, Walk, stop, go}
 use Rattle.net.specs.Net.{first_end, second_end}
@@ -21,9 +20,8 @@ use Rattle.tree.specs.Accept.{Begins}
 use Rattle.tree.specs.declared.Refusal.{Refusal}
 use Rattle.mesh.specs.Table.{rows_of}
 use Rattle.mesh.specs.Mesh.{Connected, OneRing, PathWith, Longest}
-use Rattle.mesh.specs.Answer.{mesh_refusal, MeshOf}
-use Rattle.mesh.specs.declared.MeshAnswer.{MeshAnswer}
-use Rattle.mesh.specs.declared.MeshAnswer.TheVariants.{Most, Refused}
+use Rattle.mesh.specs.Answer.{MeshAnswer, mesh_refusal, MeshOf, most}
+use Rattle.std.specs.Prelude.{Ok, Err}
 use Rattle.mesh.specs.work.Rows.{EndsApart}
 use Rattle.mesh.specs.work.Bands.{NoRepeat}
 use Rattle.mesh.proofs.Front.{Headed, header_past, good_rows}
@@ -63,14 +61,14 @@ pub record Answer (s : List ℕ) (l a b : ℕ) : Type 0 where
   pub one : OneRing (first_end s) (second_end s) (rows_of s)
   pub longest : Longest (first_end s) (second_end s) (rows_of s) (nodes_of s) l a b
 
-not_refused : {w : Refusal} {l a b : ℕ} → Refused w ≡ Most l a b → ⊥
+not_refused : {w : Refusal} {l a b : ℕ} → Err w ≡ most l a b → ⊥
 not_refused e = omega (arith, ap refusals e)
   where
     refusals : MeshAnswer → ℕ
-    refusals (Most l a b) = 0
-    refusals (Refused w) = 1
+    refusals (Ok o) = 0
+    refusals (Err w) = 1
 
-pub answered : (s : List ℕ) {l a b : ℕ} → MeshOf s (Most l a b) → Answer s l a b
+pub answered : (s : List ℕ) {l a b : ℕ} → MeshOf s (most l a b) → Answer s l a b
 answered s p =
     let h = header_past mesh_refusal {s = s} (λ k n. not_refused) p in
     let r = refusals.past_rows (λ k r z is. not_refused) h.1 in
@@ -118,8 +116,8 @@ longest_order {u} {v} {k} {n} {l} {a} {b} R p =
     (⊎_elim (λ h. omega (arith, h)) (λ h. omega (arith, h.0)) (p.first b a c (path_flip u v p.some)), c)
 
 -- THE ENDS IN ORDER, both of them nodes, and FEWER BRANCHES THAN NODES
-pub in_order : (s : List ℕ) {l a b : ℕ} → MeshOf s (Most l a b) → (a ≤ b) × (b < nodes_of s)
+pub in_order : (s : List ℕ) {l a b : ℕ} → MeshOf s (most l a b) → (a ≤ b) × (b < nodes_of s)
 in_order s p = let t = answered s p in longest_order t.rows t.longest
 
-pub fewer_than_nodes : (s : List ℕ) {l a b : ℕ} → MeshOf s (Most l a b) → l < nodes_of s
+pub fewer_than_nodes : (s : List ℕ) {l a b : ℕ} → MeshOf s (most l a b) → l < nodes_of s
 fewer_than_nodes s p = let t = answered s p in few_branches t.rows t.longest.within t.longest.some

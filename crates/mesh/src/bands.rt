@@ -7,7 +7,6 @@ ghost use Rattle.mesh.specs.work.Rows.{MeshReadable};
 ghost use Rattle.mesh.specs.work.Bands.{Later, NamedFrom, BandSizes, SomeRound, RoundEnd, SomeHung, PassesEnd};
 
 use crate::hang::Tree;
-use arrays::wide;
 use net::{first_end, second_end};
 
 // Of two nodes the one that was hung up later.
@@ -34,7 +33,7 @@ fn round(tree: &Tree, p: usize, q: usize, over: &mut [u16; 256]) -> bool
         }
         over[z] = band as u16;
         y = x + y - z;
-        x = wide(tree.par[z]);
+        x = usize::from(tree.par[z]);
     }
     true
 }
@@ -56,7 +55,9 @@ pub(crate) fn passes(s: &[u8], rows: usize, tree: &Tree) -> Option<[u16; 256]>
     for r in 0..rows {
         let p = first_end(s, r);
         let q = second_end(s, r);
-        if extra(wide(tree.par[p]), wide(tree.par[q]), p, q) && !round(tree, p, q, &mut over) {
+        if extra(usize::from(tree.par[p]), usize::from(tree.par[q]), p, q)
+            && !round(tree, p, q, &mut over)
+        {
             return None;
         }
     }
@@ -67,7 +68,7 @@ pub(crate) fn passes(s: &[u8], rows: usize, tree: &Tree) -> Option<[u16; 256]>
 fn named(w: u16, x: usize) -> usize
     ensures { (w ≡ 256 → result ≡ x) × ((w ≡ 256 → ⊥) → result ≡ w) }
 {
-    if w == 256 { x } else { wide(w) }
+    if w == 256 { x } else { usize::from(w) }
 }
 
 // Each node's band, and how many nodes each band has. Before the bands are named `over` has 256, and no None, for a

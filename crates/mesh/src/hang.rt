@@ -17,7 +17,6 @@ ghost use Rattle.mesh.specs.work.Hung.{
 };
 
 use crate::header::Head;
-use arrays::wide;
 use net::{first_end, second_end};
 
 // For each node its parent, the nodes in the order in which they were hung up, and for each node its place in that
@@ -127,15 +126,15 @@ pub(crate) fn turn(n: usize, old: &Tree, a: usize) -> Tree
     let mut m: usize = 1;
     let mut x = a;
     while x != 0 {
-        let p = wide(old.par[x]);
+        let p = usize::from(old.par[x]);
         tree.hang(m, p, x);
         m += 1;
         x = p;
     }
     for i in 1..n {
-        let y = wide(old.order[i]);
+        let y = usize::from(old.order[i]);
         if tree.place[y] == 256 {
-            let p = wide(old.par[y]);
+            let p = usize::from(old.par[y]);
             tree.hang(m, y, p);
             m += 1;
         }

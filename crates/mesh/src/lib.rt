@@ -15,7 +15,7 @@ ghost use Rattle.table.specs.Row.{Stands};
 ghost use Rattle.net.specs.Net.{first_end, second_end};
 ghost use Rattle.mesh.specs.Mesh.{OneRing};
 ghost use Rattle.mesh.specs.Table.{MeshRows};
-ghost use Rattle.mesh.specs.Answer.{mesh_refusal, MeshJoined, Answered, MeshOf};
+ghost use Rattle.mesh.specs.Answer.{MeshAnswer, mesh_refusal, MeshJoined, Answered, MeshOf};
 ghost use Rattle.mesh.specs.work.Rows.{MeshReadable};
 ghost use Rattle.mesh.specs.work.Hung.{HungAt};
 ghost use Rattle.mesh.specs.work.Bands.{NoRepeat};
@@ -25,28 +25,33 @@ use crate::hang::Tree;
 use crate::header::Head;
 use tree::Refusal;
 
-// The most branches on a simple path and the two ends of the first path that has so many, or why not.
-#[derive(Drop)]
-pub enum MeshAnswer {
-    Most { branches: u16, low: u16, high: u16 },
-    Refused(Refusal),
+// The most branches on a simple path, and the two ends of the first path that has so many.
+#[derive(Clone, Copy)]
+pub struct Most {
+    pub branches: u16,
+    pub low: u16,
+    pub high: u16,
 }
 
+// What mesh gives.
+pub type MeshAnswer = Result<Most, Refusal>;
+
 // The most branches on a path from one root, and its other end.
-#[derive(Drop)]
+#[derive(Clone, Copy)]
 struct Far {
     branches: u16,
     node: usize,
 }
 
-fn refused(number: u8, row: usize) -> MeshAnswer
-    ensures { result ≡ mesh_refusal number row }
+// A mesh's refusals name no ring.
+fn refusal(number: u8, row: usize) -> Refusal
+    ensures { result ≡ record { number = number; row = row; ring = 0 } }
 {
-    MeshAnswer::Refused(Refusal {
+    Refusal {
         number,
         row,
         ring: 0,
-    })
+    }
 }
 
 // The most branches on a simple path from node a; None for 38.
@@ -77,14 +82,14 @@ fn from_all(s: &[u8], head: Head) -> MeshAnswer
     ensures { MeshJoined (first_end s.now) (second_end s.now) head.rows head.nodes result }
 {
     let Some(tree) = hang::spread(s, head) else {
-        return refused(37, 0);
+        return Err(refusal(37, 0));
     };
     let mut branches: u16 = 0;
     let mut low: usize = 0;
     let mut high: usize = 0;
     for a in 0..head.nodes {
         let Some(far) = from_root(s, head, &tree, a) else {
-            return refused(38, 0);
+            return Err(refusal(38, 0));
         };
         if branches < far.branches {
             branches = far.branches;
@@ -92,11 +97,11 @@ fn from_all(s: &[u8], head: Head) -> MeshAnswer
             high = far.node;
         }
     }
-    MeshAnswer::Most {
+    Ok(Most {
         branches,
         low: low as u16,
         high: high as u16,
-    }
+    })
 }
 
 // 7 to 10 row by row, then 36, then what the rows join.
@@ -107,10 +112,10 @@ fn tested(s: &[u8], head: Head) -> MeshAnswer
         (Answered (first_end s.now) (second_end s.now) head.rows head.nodes) result }
 {
     if let Some(bad) = rows::first_bad(s, head) {
-        return refused(bad.number, bad.row);
+        return Err(refusal(bad.number, bad.row));
     }
     if let Some(r) = repeats::first_repeat(s, head) {
-        return refused(36, r);
+        return Err(refusal(36, r));
     }
     from_all(s, head)
 }
@@ -119,7 +124,7 @@ pub fn mesh(s: &[u8]) -> MeshAnswer
     ensures { MeshOf s.now result }
 {
     match header::open(s) {
-        Err(number) => refused(number, 0),
+        Err(number) => Err(refusal(number, 0)),
         Ok(head) => tested(s, head),
     }
 }

@@ -6,7 +6,6 @@ ghost use Rattle.table.specs.Examine.{RowNumber};
 ghost use Rattle.mesh.specs.work.Rows.{FirstBadRow};
 
 use crate::header::Head;
-use arrays::wide;
 
 // A row that is refused, and by which number.
 #[derive(Drop)]
@@ -21,8 +20,8 @@ fn row_number(s: &[u8], r: usize, n: usize) -> Option<u8>
     ensures { MatchOption result (RowNumber n s.now r 0) (λ k. RowNumber n s.now r k × (k ≢ 0)) }
 {
     let q = table::row_at(s, r);
-    let a = wide(q.a);
-    let b = wide(q.b);
+    let a = usize::from(q.a);
+    let b = usize::from(q.b);
     if n <= a || n <= b {
         return Some(7);
     }

@@ -7,7 +7,6 @@ ghost use Rattle.mesh.specs.work.Sweep.{LongerWay, SweptOn, Computed, Farthest};
 
 use crate::bands::Bands;
 use crate::hang::Tree;
-use arrays::wide;
 
 #[derive(Drop)]
 struct Step {
@@ -59,8 +58,8 @@ pub(crate) fn sweep(n: usize, tree: &Tree, bands: &Bands) -> Swept
         climb: [0; 256],
     };
     for j in 1..n {
-        let z = wide(tree.order[j]);
-        let p = wide(tree.par[z]);
+        let z = usize::from(tree.order[j]);
+        let p = usize::from(tree.par[z]);
         let f = bands.over[z];
         let t = advance(
             bands.over[p],
@@ -69,7 +68,7 @@ pub(crate) fn sweep(n: usize, tree: &Tree, bands: &Bands) -> Swept
             swept.base[p],
             swept.climb[p],
         );
-        let d = best(t.base, t.climb, bands.size[wide(f)]);
+        let d = best(t.base, t.climb, bands.size[usize::from(f)]);
         swept.base[z] = t.base;
         swept.climb[z] = t.climb;
         swept.most[z] = d;

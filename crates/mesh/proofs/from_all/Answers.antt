@@ -8,7 +8,7 @@ pub spread-requires : goal.spread-requires
 spread-requires c = (c.requires.0, c.requires.1)
 
 pub returns-in_default : goal.returns-in_default
-returns-in_default c = rw c.refused.ensures (refused c.in_default.ensures)
+returns-in_default c = rw c.refusal.ensures (refused c.in_default.ensures)
 
 pub loop-a-init : goal.loop-a-init
 loop-a-init c = (rooting_start c.requires.1, c.in-Some.ensures)
@@ -21,7 +21,7 @@ from_root-requires c =
 
 pub returns-in_default-from_root : goal.returns-in_default-from_root
 returns-in_default-from_root c =
-    rw c.refused-in_default-from_root.ensures
+    rw c.refusal-in_default-from_root.ensures
     (two_rings_refused c.loop-a.invariant.1 c.in_default-from_root.ensures)
 
 pub loop-a-preserved : goal.loop-a-preserved

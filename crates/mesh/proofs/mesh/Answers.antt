@@ -6,7 +6,7 @@ use Rattle.mesh.proofs.Front.{head_refused, head_good, headed_stands, head_passe
 use Rattle.mesh.proofs.mesh.Goals as goal
 
 pub returns-in-Err : goal.returns-in-Err
-returns-in-Err c = rw c.refused.ensures (head_refused c.args.s.now c.in-Err.ensures)
+returns-in-Err c = rw c.refusal.ensures (head_refused c.args.s.now c.in-Err.ensures)
 
 pub tested-requires : goal.tested-requires
 tested-requires c =

@@ -7,14 +7,14 @@ pub first_bad-requires : goal.first_bad-requires
 first_bad-requires c = (c.requires.0, c.requires.1)
 
 pub returns-in-Some : goal.returns-in-Some
-returns-in-Some c = rw c.refused.ensures (row_refused c.args.s.now c.in-Some.ensures)
+returns-in-Some c = rw c.refusal.ensures (row_refused c.args.s.now c.in-Some.ensures)
 
 pub first_repeat-requires : goal.first_repeat-requires
 first_repeat-requires c = rows_readable c.args.s.now c.in_default.ensures c.requires.0 c.requires.3
 
 pub returns-in-Some-first_repeat : goal.returns-in-Some-first_repeat
 returns-in-Some-first_repeat c =
-    rw c.refused-in-Some-first_repeat.ensures
+    rw c.refusal-in-Some-first_repeat.ensures
     (rows_passed c.args.s.now c.in_default.ensures (repeat_refused c.in-Some-first_repeat.ensures))
 
 pub from_all-requires : goal.from_all-requires

@@ -73,14 +73,14 @@ loop-x-smaller c =
     let loop-test-taken = c.loop-x-test.true in
     let loop-inv = c.loop-x.invariant in
     let pre = c.requires in
-    rw c.wide-x.ensures.0 (step_less (loop-inv _ _ _ _ _ _ _ pre.round) loop-test-taken _ later2-ensures)
+    rw c.from-x.ensures (step_less (loop-inv _ _ _ _ _ _ _ pre.round) loop-test-taken _ later2-ensures)
 
 pub loop-x-preserved : goal.loop-x-preserved
 loop-x-preserved c =
     let later2-ensures = c.later-z.ensures in
     let loop-test-taken = c.loop-x-test.true in
     let loop-inv = c.loop-x.invariant in
-    λ u v k n a order r t. rw c.wide-x.ensures.0
+    λ u v k n a order r t. rw c.from-x.ensures
     (step_next (loop-inv u v k n a order r t) loop-test-taken _ later2-ensures
     (omega arith))
 
