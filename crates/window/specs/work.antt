@@ -1,3 +1,4 @@
 -- Working statements: what functions promise each other, and no part of an operation's promise.
+pub mod Asked
 pub mod Best
 pub mod Scan

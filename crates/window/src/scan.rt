@@ -5,11 +5,12 @@ ghost use Rattle.net.specs.work.Net.{Net};
 ghost use Rattle.limits.specs.work.Fits.{Fits};
 ghost use Rattle.pages.specs.Paged.{Paged};
 ghost use Rattle.paths.specs.work.Paths.{ArraysLent};
-ghost use Rattle.window.specs.Window.{window};
+ghost use Rattle.window.specs.work.Asked.{window_asked};
 ghost use Rattle.window.specs.List.{AsMany};
 ghost use Rattle.window.specs.work.Scan.{Both, ListStand, ListTaken, FourLent, RowsReady, RowsOf, Hits};
 
-use crate::best::{CountLimits, best};
+use crate::Asked;
+use crate::best::best;
 use ground::grounded;
 use limits::Limit;
 use pages::{Count, Sums};
@@ -99,17 +100,14 @@ pub(crate) fn page(
     s: &[u8],
     marks: &[u16],
     nodes: u16,
-    fewest: u32,
-    most: u32,
-    floor: i64,
-    ceiling: i64,
+    asked: Asked,
     low: u16,
     high: u16,
     walk: &mut Walk,
     rows: &mut [u8],
 ) -> Count
-    requires { Net s.now nodes × (0 < fewest) }
-    ensures { Paged (AsMany s.now marks.now nodes (window fewest most floor ceiling)) low
+    requires { Net s.now nodes × (0 < asked.fewest) }
+    ensures { Paged (AsMany s.now marks.now nodes (window_asked asked)) low
         high rows.old result.given result.left rows.new }
 {
     let mut bl: [u64; 4096] = [0; 4096];
@@ -122,14 +120,8 @@ pub(crate) fn page(
     arrays::fill_long(&mut ones, 1);
     let n = usize::from(nodes);
     let from = usize::from(low);
-    let counts = CountLimits {
-        fewest: u64::from(fewest),
-        most: u64::from(most),
-    };
-    let sums = Sums {
-        floor: pages::raised(floor),
-        end: pages::capped(ceiling),
-    };
+    let counts = asked.counts();
+    let sums = asked.sums();
     let b = best(
         &walk.parent,
         &walk.order,

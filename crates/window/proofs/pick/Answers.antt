@@ -6,10 +6,10 @@ use mathlib.Core.Logic.{◌≢◌}
 use native.Mathlib.Omega.{arith}
 use lib.ListN.{length}
 use mir.Syntax.{w64}
-use mir.Val.{to_z, of_z}
 use mir.ValLaws.{to_z-of_z}
 use Rattle.table.specs.Refuse.{refused, passed}
-use Rattle.window.specs.Window.{Window, window, Proper, InWindow}
+use Rattle.window.specs.Window.{Window, Proper, InWindow}
+use Rattle.window.specs.work.Asked.{window_asked}
 use Rattle.window.specs.work.Best.{BestOf}
 use Rattle.window.proofs.FromBest.{none_inside, nodes_fit, count_fits, most_given}
 use Rattle.window.proofs.pick.Goals.{After-search-b}
@@ -17,38 +17,25 @@ use Rattle.window.proofs.pick.Goals as goal
 
 -- after the search: 13 and 30 are passed, and what was found is the best pair of the window that the arguments say
 module _ (c : After-search-b) where
-  e : to_z w64 (of_z w64 c.args.floor) ≡ c.args.floor
-  e = to_z-of_z w64 c.args.floor c.ranges.floor
-
-  f : to_z w64 (of_z w64 c.args.ceiling) ≡ c.args.ceiling
-  f = to_z-of_z w64 c.args.ceiling c.ranges.ceiling
-
   abbrev asked : Window
-  asked = window c.args.fewest c.args.most c.args.floor c.args.ceiling
+  asked = window_asked c.args.asked
 
   marked : length c.args.marks.now ≡ c.args.nodes - 1
   marked = omega (arith, c.if-marks-n.false, c.from-n.ensures)
 
   well_put : Proper asked
-  well_put = rw (e, f) at (c.proper.ensures.holds c.if-not-proper.false)
+  well_put = c.proper.ensures.0.holds c.if-not-proper.false
 
   best_is : BestOf (InWindow c.args.s.now c.args.marks.now c.args.nodes asked) c.search-b.result
-  best_is = rw (e, f) at c.search-b.ensures
+  best_is = c.search-b.ensures
 
 pub returns-then-marks-n : goal.returns-then-marks-n
 returns-then-marks-n c = refused (λ h. c.if-marks-n.true (omega (arith, c.from-n.ensures)))
 
 pub returns-then-not-proper : goal.returns-then-not-proper
 returns-then-not-proper c =
-    let args = c.args in
-    let fits = c.ranges in
-    let e = to_z-of_z w64 args.floor fits.floor in
-    let f = to_z-of_z w64 args.ceiling fits.ceiling in
-    let wide-ensures = c.from-n.ensures in
-    let proper-ensures = c.proper.ensures in
-    let if1-left = c.if-marks-n.false in
-    passed (omega (arith, if1-left, wide-ensures))
-    (refused (λ h. proper-ensures.fails c.if-not-proper.true (rw (e, f) h)))
+    passed (omega (arith, c.if-marks-n.false, c.from-n.ensures))
+    (refused (λ h. c.proper.ensures.0.fails c.if-not-proper.true h))
 
 pub returns-then-b-eq0 : goal.returns-then-b-eq0
 returns-then-b-eq0 c =
@@ -71,7 +58,7 @@ overflow_cast-result-2 c =
 pub overflow_cast-result-3 : goal.overflow_cast-result-3
 overflow_cast-result-3 c =
     let here = (goal.at.overflow_cast-result-3 c).After-search-b in
-    omega (arith, count_fits _ _ (asked here) c.requires (best_is here) (omega arith), c.ranges.most.fits)
+    omega (arith, count_fits _ _ (asked here) c.requires (best_is here) (omega arith), c.proper.ensures.1 c.if-not-proper.false)
 
 pub returns : goal.returns
 returns c =

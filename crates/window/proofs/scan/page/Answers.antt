@@ -4,35 +4,27 @@ use mathlib.Core.Path.{◌≡◌, refl}
 use mathlib.Core.Bool.{true}
 use mathlib.Core.Logic.{◌≢◌}
 use native.Mathlib.Omega.{arith}
-use mir.Syntax.{w64}
-use mir.ValLaws.{to_z-of_z}
-use Rattle.pages.specs.work.Lowered.{Raised, Capped}
 use Rattle.paths.proofs.Fresh.{fresh}
-use Rattle.window.specs.Window.{Window, window, InWindow}
+use Rattle.window.specs.Window.{Window, InWindow}
+use Rattle.window.specs.work.Asked.{window_asked}
 use Rattle.window.specs.work.Best.{BestOf}
 use Rattle.window.proofs.Counting.{counted, both}
 use Rattle.window.proofs.FromBest.{window_best, all_hit, list_none, list_page}
 use Rattle.window.proofs.scan.page.Goals.{After-best-b}
 use Rattle.window.proofs.scan.page.Goals as goal
 
--- after the search: the sums are those that the arguments say, and what was found is the best pair of the window
+-- after the search: what was found is the best pair of the window
 module _ (c : After-best-b) where
   abbrev asked : Window
-  asked = window c.args.fewest c.args.most c.args.floor c.args.ceiling
-
-  low_sum : Raised c.args.floor c.raised.result
-  low_sum = rw (to_z-of_z w64 c.args.floor c.ranges.floor) at c.raised.ensures
-
-  high_sum : Capped c.args.ceiling c.capped.result
-  high_sum = rw (to_z-of_z w64 c.args.ceiling c.ranges.ceiling) at c.capped.ensures
+  asked = window_asked c.args.asked
 
   n_is : c.from-n.result ≡ c.args.nodes
   n_is = c.from-n.ensures
 
   best_is : BestOf (InWindow c.args.s.now c.args.marks.now c.args.nodes asked) c.best-b.result
   best_is =
-      window_best (omega arith) n_is c.grounded.ensures c.fill_long.ensures c.from.ensures c.from-2.ensures low_sum
-      high_sum c.best-b.ensures.0
+      window_best (omega arith) n_is c.grounded.ensures c.fill_long.ensures c.counts-counts.ensures.0
+      c.counts-counts.ensures.1 c.sums-sums.ensures.0 c.sums-sums.ensures.1 c.best-b.ensures.0
 
 pub best-b-requires : goal.best-b-requires
 best-b-requires c =
@@ -63,10 +55,10 @@ firsts-requires c =
 pub returns : goal.returns
 returns c =
     let here = (goal.at.returns c).After-best-b in
-    let wide3-ensures = c.from-3.ensures in
+    let wide3-ensures = c.from.ensures in
     let wide2-ensures = c.from-from.ensures in
     let if1-left = c.if-b-eq0.false in
     let m : c.best-b.result.count ≢ 0 = omega (arith, if1-left) in
     list_page _ _ (asked here) (record { most = c.best-b.result.count; exact = true }) (n_is here) (best_is here) m
-    c.grounded.ensures c.fill_long.ensures (low_sum here) (high_sum here) (λ k h. h)
+    c.grounded.ensures c.fill_long.ensures c.sums-sums.ensures.0 c.sums-sums.ensures.1 (λ k h. h)
     refl (rw (wide2-ensures, wide3-ensures) at c.firsts.ensures)
