@@ -9,7 +9,8 @@ use figures::{Figure, figure};
 use limits::Limit;
 use pages::Sums;
 
-// The numbers of a net of n nodes laid out by spots, with the tables of its figures, and what a pair's figures must pass.
+// The numbers of a net of n nodes laid out by spots, with the tables of its figures, and what a pair's figures must
+// pass.
 #[derive(Clone, Copy)]
 pub(crate) struct Pairs<'a> {
     pub spot: &'a [u16; 4096],

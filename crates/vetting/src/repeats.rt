@@ -6,7 +6,8 @@ use crate::lines::admit;
 use numbers::two;
 
 // Of the first r rows, each of which names two nodes, lower first; r where none of them repeats a pair. The set then
-// has the pairs of the block that the rows before it name.
+// has the pairs of the block that the rows before it name. No Option: the result is how many rows are good so far,
+// which the next block's pass takes as its r.
 pub(crate) fn first_repeat(
     list: &[u8],
     r: usize,

@@ -24,7 +24,7 @@ fn belongs(list: &[u8], i: usize, pairs: &Pairs) -> bool
     four(list, p + 4) == v.length && eight(list, p + 8) == bits(v.weight) && pairs.passes(&v)
 }
 
-// Of m rows the first that does not belong; m where all do.
+// Of m rows the first that does not belong; m where all do. No Option: it is how many rows the blocks' passes go over.
 pub(crate) fn first_foreign(list: &[u8], m: usize, pairs: &Pairs) -> usize
     requires { Ready pairs.now
         × (16 * m ≤ length list.now) }
