@@ -1,9 +1,10 @@
 -- Lines and what follows them, put together as they are handed over, are what is told.
-use Prim.Native.Nat.{ℕ, ◌+◌}
+use Prim.Native.Nat.{ℕ, ◌+◌, ◌≤◌}
 use mathlib.Core.Path.{◌≡◌, refl, ap}
 use mathlib.Core.List.{List, [], ◌∷◌, ◌++◌}
 use native.Mathlib.Omega.{arith}
 use lib.ListN.{length, take, length-append}
+use lib.Seq.{length-take-le, take_all}
 use Rattle.std.proofs.Common.{Option, Result, Ok, Err, OnErr}
 use Rattle.streams.specs.Front.{HasWritten}
 use Rattle.text.specs.work.Put.{Put}
@@ -14,6 +15,13 @@ use Rattle.trade.specs.Told.{sized, Tells, HandedOver, WritesFront}
 nothing_after : (l : List ℕ) → l ++ [] ≡ l
 nothing_after [] = refl
 nothing_after (x ∷ l) = ap {B = List ℕ} (λ r. x ∷ r) (nothing_after l)
+
+-- the front of lent bytes, by itself
+pub sized_front : (n : ℕ) (now : List ℕ) → n ≤ length now → sized (length (take n now)) (take n now) ≡ sized n now
+sized_front n now h =
+    let e : length (take n now) ≡ n = length-take-le n now h in
+    let f : take n (take n now) ≡ take n now = take_all n (take n now) (omega (arith, e)) in
+    rw (e, f) refl
 
 module _ (way : ℕ) (first second : List ℕ) (bound : ℕ) where
   -- a line alone; a line and the bytes after it; and both twice

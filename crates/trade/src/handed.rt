@@ -6,6 +6,15 @@ use std::io;
 use std::io::Write;
 use streams::write_both;
 
+// What is asked: the way, the wire bound, and two inputs.
+#[derive(Clone, Copy)]
+pub(crate) struct Asked<'a> {
+    pub way: u8,
+    pub bound: u32,
+    pub first: &'a [u8],
+    pub second: &'a [u8],
+}
+
 // How many bytes have been handed over, in two parts. The fields are private, so that `hand_over` alone makes one: an
 // outcome of which something was left out has more bytes.
 #[derive(Drop)]
@@ -19,19 +28,20 @@ pub(crate) struct Handed {
 // writer whose bytes are known has them all, or after an error a front of them.
 pub(crate) fn hand_over<W: Write>(
     to: &mut W,
-    way: u8,
-    first: &[u8],
-    second: &[u8],
-    bound: u32,
+    asked: &Asked,
     line: &[u8],
     bytes: &[u8],
     other: &[u8],
     more: &[u8],
 ) -> io::Result<Handed>
-    requires { Tells way first.now second.now bound ((line.now ++ bytes.now) ++ (other.now ++ more.now)) }
-    ensures counted { IfOk result (λ handed. HandedOver way first.now second.now bound handed.one handed.two) }
-    ensures written { OnOk result (Writes way first.now second.now bound (W.contents to.old) (W.contents to.new)) }
-    ensures err { OnErr result (WritesFront way first.now second.now bound (W.contents to.old) (W.contents to.new)) }
+    requires { Tells asked.now.way asked.now.first.now asked.now.second.now asked.now.bound
+        ((line.now ++ bytes.now) ++ (other.now ++ more.now)) }
+    ensures counted { IfOk result (λ handed. HandedOver asked.now.way asked.now.first.now asked.now.second.now
+        asked.now.bound handed.one handed.two) }
+    ensures written { OnOk result (Writes asked.now.way asked.now.first.now asked.now.second.now asked.now.bound
+        (W.contents to.old) (W.contents to.new)) }
+    ensures err { OnErr result (WritesFront asked.now.way asked.now.first.now asked.now.second.now asked.now.bound
+        (W.contents to.old) (W.contents to.new)) }
 {
     write_both(to, line, bytes)?;
     write_both(to, other, more)?;

@@ -8,13 +8,15 @@
 mod handed;
 mod trading;
 
-ghost use Rattle.std.specs.Prelude.{◌<◌, ◌≡◌};
+ghost use Rattle.std.specs.Prelude.{◌≡◌};
 
+use handed::Asked;
 use std::io;
 use std::io::{Read, Write};
 use streams::read_full;
 
-// 1 MB for a text, twice; and what a table of such texts takes at most. The system gives a program 8 MB of stack.
+// 1 MB for a text, twice; and what a table of such texts takes at most. The system gives a program 8 MB of stack. Each
+// is made in a function of its own: beside other code the check of so large an array did not end in ten minutes.
 fn input_space() -> [u8; 1048576] {
     [0; 1048576]
 }
@@ -31,46 +33,29 @@ fn line_space() -> [u8; 128] {
     [0; 128]
 }
 
-fn wide(x: u8) -> usize
-    ensures { (result ≡ x) × (result < 256) }
-{
-    x as usize
-}
-
-fn number(a: u8, b: u8, c: u8, d: u8) -> usize
-    ensures { result < 4294967296 }
-{
-    wide(a) + 256 * wide(b) + 65536 * wide(c) + 16777216 * wide(d)
-}
-
 // Whether the next bytes of standard input, as many as the input has, are there.
 fn filled<R: Read>(from: &mut R, input: &mut [u8]) -> io::Result<bool> {
     let n = read_full(from, input)?;
     Ok(n == input.len())
 }
 
-fn read<W: Write>(to: &mut W, lengths: &[u8], weights: &[u8], bound: u32) -> io::Result<()> {
+fn read<W: Write>(to: &mut W, asked: &Asked) -> io::Result<()>
+    requires { asked.now.way ≡ 1 }
+{
     let mut table = table_space();
     let mut line = line_space();
-    trading::read(to, lengths, weights, bound, &mut table, &mut line)?;
+    trading::read(to, asked, &mut table, &mut line)?;
     Ok(())
 }
 
-fn write<W: Write>(to: &mut W, s: &[u8], second: &[u8], bound: u32) -> io::Result<()> {
+fn write<W: Write>(to: &mut W, asked: &Asked) -> io::Result<()>
+    requires { asked.now.way ≡ 2 }
+{
     let mut lengths = text_space();
     let mut weights = text_space();
     let mut line = line_space();
     let mut other = line_space();
-    trading::write(
-        to,
-        s,
-        second,
-        bound,
-        &mut lengths,
-        &mut weights,
-        &mut line,
-        &mut other,
-    )?;
+    trading::write(to, asked, &mut lengths, &mut weights, &mut line, &mut other)?;
     Ok(())
 }
 
@@ -78,45 +63,24 @@ fn trade<R: Read, W: Write>(
     from: &mut R,
     to: &mut W,
     way: u8,
-    bound: usize,
+    bound: u32,
     first: &mut [u8],
     second: &mut [u8],
-) -> io::Result<()>
-    requires { bound < 4294967296 }
-{
-    if filled(from, first)? {
-        if filled(from, second)? {
-            if way == 1 {
-                read(to, first, second, bound as u32)?;
-            }
-            if way == 2 {
-                write(to, first, second, bound as u32)?;
-            }
-        }
+) -> io::Result<()> {
+    if !filled(from, first)? || !filled(from, second)? {
+        return Ok(());
     }
-    Ok(())
-}
-
-fn with_inputs<R: Read, W: Write>(
-    from: &mut R,
-    to: &mut W,
-    way: u8,
-    bound: usize,
-    a: usize,
-    b: usize,
-    first: &mut [u8],
-    second: &mut [u8],
-) -> io::Result<()>
-    requires { bound < 4294967296 }
-{
-    if a <= first.len() {
-        if b <= second.len() {
-            let one = &mut first[0..a];
-            let two = &mut second[0..b];
-            trade(from, to, way, bound, one, two)?;
-        }
+    let asked = Asked {
+        way,
+        bound,
+        first,
+        second,
+    };
+    match way {
+        1 => read(to, &asked),
+        2 => write(to, &asked),
+        _ => Ok(()),
     }
-    Ok(())
 }
 
 fn main(rt: HostRuntime) -> io::Result<()> {
@@ -124,16 +88,20 @@ fn main(rt: HostRuntime) -> io::Result<()> {
     let mut to = rt.stdout();
     let mut h = [0u8; 13];
     read_full(&mut from, &mut h)?;
+    let bound = u32::from_le_bytes([h[1], h[2], h[3], h[4]]);
+    let a = u32::from_le_bytes([h[5], h[6], h[7], h[8]]) as usize;
+    let b = u32::from_le_bytes([h[9], h[10], h[11], h[12]]) as usize;
     let mut first = input_space();
     let mut second = input_space();
-    with_inputs(
-        &mut from,
-        &mut to,
-        h[0],
-        number(h[1], h[2], h[3], h[4]),
-        number(h[5], h[6], h[7], h[8]),
-        number(h[9], h[10], h[11], h[12]),
-        &mut first,
-        &mut second,
-    )
+    if a <= first.len() && b <= second.len() {
+        trade(
+            &mut from,
+            &mut to,
+            h[0],
+            bound,
+            &mut first[..a],
+            &mut second[..b],
+        )?;
+    }
+    Ok(())
 }
