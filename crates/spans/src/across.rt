@@ -8,7 +8,8 @@ ghost use Rattle.spans.specs.work.Partners.{Offered, Preferred, Picked, Walkable
 use arrays::wide;
 use limits::{Limit, fits};
 
-// The best pair so far: its weight and length, lifted, and its two nodes, lower first. Weight 0: none.
+// The best pair so far: its weight and length, lifted, and its two nodes, lower first. Weight 0 stands for none, where
+// an Option would say more: `whole` of parts and `heaviest_pair` of layout promise it (`best4 0 0 0 0`).
 #[derive(Drop)]
 pub struct Best {
     pub weight: u64,
