@@ -1,5 +1,6 @@
 -- HOLDERS NEVER SHOW: two sets of marks of one number, free at the same places, give equal outcomes of vet, whoever the
 -- holders are.
+use Rattle.vetting.specs.Vets.{Vetted}
 use Prim.Native.Nat.{ℕ}
 use mathlib.Core.Path.{◌≡◌}
 use mathlib.Core.List.{List}
@@ -10,8 +11,7 @@ use Rattle.table.proofs.Refusals.{unless_map}
 use Rattle.tree.proofs.Begins.{begins_alike}
 use Rattle.marks.proofs.Weights.{Alike}
 use Rattle.ground.proofs.Alike.{passes_alike, flip}
-use Rattle.vetting.specs.declared.Vetted.{Vetted}
-use Rattle.vetting.proofs.Alike.{vets_iff}
+use Rattle.vetting.proofs.Alike.{verdict_iff}
 use Rattle.vet.specs.Vet.{vet_refusal, VetsOn, VetOf}
 use Rattle.vet.proofs.Only.{goes_only}
 
@@ -22,7 +22,7 @@ module _ (s marks marks' : List ℕ) (h : Alike marks marks') (e : length marks 
       rw (← e)
       (unless_map (λ o. o)
       (λ _. unless_map (λ o. o)
-      (λ _. vets_iff (passes_alike s marks marks' h n) (passes_alike s marks' marks (flip marks marks' h) n) list _ x))
+      (λ _. verdict_iff (passes_alike s marks marks' h n) (passes_alike s marks' marks (flip marks marks' h) n) list _ x))
       p)
 
   pub vet_holders_never_show : (x y : Vetted) → VetOf s marks floor list x → VetOf s marks' floor list y → x ≡ y

@@ -1,5 +1,6 @@
 -- The verdict by numbers is the verdict on the accepted net's own listing: what is meant by the figures that are laid
 -- out by spots is what qualifies, of any ground, and so of the net's.
+use Rattle.vetting.specs.declared.Verdict.{Verdict}
 use Prim.Native.Nat.{ℕ, ◌*◌, ◌≤◌, ◌<◌}
 use mathlib.Core.Path.{◌≡◌, refl}
 use mathlib.Core.Bool.{false}
@@ -22,7 +23,6 @@ use Rattle.ground.specs.PathOf.{PathOf}
 use Rattle.ground.specs.work.Grounded.{ValueIn, Grounded}
 use Rattle.ground.proofs.Branching.{ground}
 use Rattle.vetting.specs.Vets.{Vets}
-use Rattle.vetting.specs.declared.Vetted.{Vetted}
 use Rattle.vetting.proofs.Alike.{vets_iff}
 use Rattle.vetting.specs.work.Meant.{Meant}
 use Rattle.vetting.specs.work.Screened.{RowsAsked}
@@ -56,7 +56,7 @@ module _ {s marks parent half order place bl bw spot above far heavy : List ℕ}
       some = omega (arith, e, of_net.spots.some)
 
   pub verdict_is : {floor : ℤ} {most low : ℕ} → most ≡ bound_of s → Raised floor low
-      → (list : List ℕ) (m : ℕ) (r : Vetted) → Vets (Meant spot above far heavy n (at_most most) (from low)) list m r
+      → (list : List ℕ) (m : ℕ) (r : Verdict) → Vets (Meant spot above far heavy n (at_most most) (from low)) list m r
       → Vets (Considered (λ l. l ≤ bound_of s) s marks nodes floor) list m r
   verdict_is {most = most} {low} b h list m r v =
       let w = weighs_from {sums = from low} h refl in

@@ -1,11 +1,12 @@
 -- Where the same entries belong, a list has the same verdict: by the entries that belong a row is good, and a pair
 -- missing.
+use Rattle.std.specs.Prelude.{Ok, Err}
 use Prim.Native.Nat.{ℕ}
 use mathlib.Core.List.{List}
 use Rattle.pages.specs.Listing.{Entry}
-use Rattle.vetting.specs.Vets.{GoodRow, FirstMissing, Vets}
-use Rattle.vetting.specs.declared.Vetted.{Vetted}
-use Rattle.vetting.specs.declared.Vetted.TheVariants.{Yes, Fault, Missing, Refused}
+use Rattle.vetting.specs.Vets.{GoodRow, FirstMissing, Vets, Vetted, GivesVerdict}
+use Rattle.vetting.specs.declared.Verdict.{Verdict}
+use Rattle.vetting.specs.declared.Verdict.TheVariants.{Yes, Fault, Missing}
 
 good_map : {P Q : Entry → Type 0} → ((e : Entry) → P e → Q e) → {s : List ℕ} {i : ℕ} → GoodRow P s i
     → GoodRow Q s i
@@ -23,8 +24,11 @@ module _ {P Q : Entry → Type 0} (f : (e : Entry) → P e → Q e) (g : (e : En
     high_is = x.high_is;
   }
 
-  pub vets_iff : (s : List ℕ) (m : ℕ) (v : Vetted) → Vets P s m v → Vets Q s m v
+  pub vets_iff : (s : List ℕ) (m : ℕ) (v : Verdict) → Vets P s m v → Vets Q s m v
   vets_iff s m Yes p = (λ i h. good_map f (p.0 i h), λ e q. p.1 e (g e q))
   vets_iff s m (Fault i) p = (p.0, λ j h. good_map f (p.1 j h), λ b. p.2 (good_map g b))
   vets_iff s m (Missing a b) p = (λ i h. good_map f (p.0 i h), missing_iff p.1)
-  vets_iff s m (Refused w) p = p
+
+  pub verdict_iff : (s : List ℕ) (m : ℕ) (o : Vetted) → GivesVerdict P s m o → GivesVerdict Q s m o
+  verdict_iff s m (Ok v) p = vets_iff s m v p
+  verdict_iff s m (Err why) p = p

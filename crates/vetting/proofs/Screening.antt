@@ -12,7 +12,7 @@ use Rattle.pages.specs.Listing.{Entry, Before, first, second}
 use Rattle.pages.specs.work.RowFits.{RowFits}
 use Rattle.table.specs.Bytes.{u16_at}
 use Rattle.vetting.specs.Vets.{list_pair, GoodRow, There, Vets}
-use Rattle.vetting.specs.declared.Vetted.TheVariants.{Yes, Fault, Missing}
+use Rattle.vetting.specs.declared.Verdict.TheVariants.{Yes, Fault, Missing}
 use Rattle.vetting.specs.work.Foreign.{Belongs, FirstForeign}
 use Rattle.vetting.specs.work.Lines.{InBlock, LineDone}
 use Rattle.vetting.specs.declared.lacks.Lack.{Lack}

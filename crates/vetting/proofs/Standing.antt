@@ -11,7 +11,7 @@ use Rattle.limits.specs.declared.Limit.{Limit}
 use Rattle.pages.specs.Listing.{Entry}
 use Rattle.figures.specs.work.Bins.{Tables}
 use Rattle.vetting.specs.Vets.{Vets}
-use Rattle.vetting.specs.declared.Vetted.TheVariants.{Yes, Fault, Missing}
+use Rattle.vetting.specs.declared.Verdict.TheVariants.{Yes, Fault, Missing}
 use Rattle.vetting.specs.declared.lacks.Lack.{Lack}
 use Rattle.vetting.specs.declared.pairs.Pairs.{Pairs}
 use Rattle.vetting.specs.work.Foreign.{FirstForeign}

@@ -21,7 +21,7 @@ use Rattle.pages.proofs.Rows.{rows_length}
 use Rattle.pages.proofs.Listings.{listing_none}
 use Rattle.vetting.specs.Shuffled.{Shuffled}
 use Rattle.vetting.specs.Vets.{list_row, list_pair, GoodRow, There, Vets}
-use Rattle.vetting.specs.declared.Vetted.TheVariants.{Yes}
+use Rattle.vetting.specs.declared.Verdict.TheVariants.{Yes}
 use Rattle.vetting.proofs.Pieces.{in_any_order}
 use Rattle.vetting.proofs.RowsAt.{
   StandsAt,

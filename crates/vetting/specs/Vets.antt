@@ -1,10 +1,11 @@
 -- Vetting a list of rows against the entries of a listing: yes, the first row at fault, or the first pair missing.
 -- Nothing is decoded: a row of the list is compared with the listing's own row of an entry, byte for byte.
-use Rattle.std.specs.Prelude.{ℕ, ◌*◌, ◌<◌, ◌≡◌, ◌≢◌, List, take, drop}
+use Rattle.std.specs.Prelude.{ℕ, ◌*◌, ◌<◌, ◌≡◌, ◌≢◌, List, take, drop, Result, Ok, Err}
 use Rattle.pages.specs.Listing.{Entry, Before}
 use Rattle.pages.specs.Bytes.{row}
-use Rattle.vetting.specs.declared.Vetted.{Vetted}
-use Rattle.vetting.specs.declared.Vetted.TheVariants.{Yes, Fault, Missing, Refused}
+use Rattle.tree.specs.declared.Refusal.{Refusal}
+use Rattle.vetting.specs.declared.Verdict.{Verdict}
+use Rattle.vetting.specs.declared.Verdict.TheVariants.{Yes, Fault, Missing}
 
 -- the 16 bytes of row i of a list, and the four of them that name its pair
 abbrev pub list_row : List ℕ → ℕ → List ℕ
@@ -37,8 +38,15 @@ pub record FirstMissing (P : Entry → Type 0) (s : List ℕ) (m low high : ℕ)
 
 -- the verdict on the m rows of s: all good and every entry there; or the first row that is not good; or, where all are,
 -- the first pair missing
-abbrev pub Vets : (Entry → Type 0) → List ℕ → ℕ → Vetted → Type 0
+abbrev pub Vets : (Entry → Type 0) → List ℕ → ℕ → Verdict → Type 0
 Vets P s m Yes = ((i : ℕ) → i < m → GoodRow P s i) × ((e : Entry) → P e → There s m e)
 Vets P s m (Fault i) = (i < m) × ((j : ℕ) → j < i → GoodRow P s j) × ¬ GoodRow P s i
 Vets P s m (Missing low high) = ((i : ℕ) → i < m → GoodRow P s i) × FirstMissing P s m low high
-Vets P s m (Refused why) = ⊥
+
+-- what vet gives: the verdict, or why none
+abbrev pub Vetted : Type 0
+Vetted = Result Verdict Refusal
+
+abbrev pub GivesVerdict : (Entry → Type 0) → List ℕ → ℕ → Vetted → Type 0
+GivesVerdict P s m (Ok verdict) = Vets P s m verdict
+GivesVerdict P s m (Err why) = ⊥

@@ -5,13 +5,13 @@ ghost use Rattle.vetting.specs.work.Foreign.{FirstForeign};
 ghost use Rattle.vetting.specs.work.Meant.{MeantOf};
 ghost use Rattle.vetting.specs.work.Screened.{BlocksAsked};
 
-use crate::Vetted;
+use crate::Verdict;
 use crate::lacks::first_lack;
 use crate::pairs::Pairs;
 use crate::repeats::first_repeat;
 
 // The verdict; `row` is the first row that does not belong.
-pub(crate) fn screen(list: &[u8], m: usize, row: usize, pairs: &Pairs) -> Vetted
+pub(crate) fn screen(list: &[u8], m: usize, row: usize, pairs: &Pairs) -> Verdict
     requires { BlocksAsked list.now m pairs.now × FirstForeign (MeantOf pairs.now) list.now m row }
     ensures { Vets (MeantOf pairs.now) list.now m result }
 {
@@ -30,13 +30,13 @@ pub(crate) fn screen(list: &[u8], m: usize, row: usize, pairs: &Pairs) -> Vetted
         }
     }
     if r < m {
-        return Vetted::Fault { row: r };
+        return Verdict::Fault { row: r };
     }
     match lack {
-        Some(lack) => Vetted::Missing {
+        Some(lack) => Verdict::Missing {
             low: lack.low as u16,
             high: lack.high as u16,
         },
-        None => Vetted::Yes,
+        None => Verdict::Yes,
     }
 }

@@ -23,14 +23,16 @@ use limits::Limit;
 use pages::Sums;
 use tree::Refusal;
 
-// Yes, the first row at fault, or the first pair missing; or why not.
-#[derive(Drop)]
-pub enum Vetted {
+// Yes, the first row at fault, or the first pair missing.
+#[derive(Clone, Copy)]
+pub enum Verdict {
     Yes,
     Fault { row: usize },
     Missing { low: u16, high: u16 },
-    Refused(Refusal),
 }
+
+// What vet gives.
+pub type Vetted = Result<Verdict, Refusal>;
 
 // Between crates: the verdict on a list of m rows. The nodes have their spots in spot; by spot, above has the parent's
 // spot, far and heavy the distance and the lifted weight from node 0. The three arrays lent are for tables.
@@ -47,7 +49,7 @@ pub fn vet_rows(
     tail: &mut [u16; 4096],
     front: &mut [u16; 4096],
     gap: &mut [u16; 4096],
-) -> Vetted
+) -> Verdict
     requires { RowsAsked list.now m n spot.now above.now far.now heavy.now limit }
     ensures { Vets
         (Meant spot.now above.now far.now heavy.now n limit sums)

@@ -6,14 +6,14 @@ use Rattle.table.specs.Refuse.{refused, passed}
 use Rattle.vet.proofs.go_on.Goals as goal
 
 pub returns-then-marks-n : goal.returns-then-marks-n
-returns-then-marks-n c = refused (λ h. c.if-marks-n.true (omega (arith, c.wide-n.ensures)))
+returns-then-marks-n c = refused (λ h. c.if-marks-n.true (omega (arith, c.from-n.ensures)))
 
 pub returns-then-list-ne0 : goal.returns-then-list-ne0
-returns-then-list-ne0 c = passed (omega (arith, c.wide-n.ensures)) (refused (λ h. omega (arith, c.if-list-ne0.true)))
+returns-then-list-ne0 c = passed (omega (arith, c.from-n.ensures)) (refused (λ h. omega (arith, c.if-list-ne0.true)))
 
 pub returns : goal.returns
 returns c =
-    let wide-ensures = c.wide-n.ensures in
+    let wide-ensures = c.from-n.ensures in
     let args = c.args in
     let fits = c.ranges in
     let e = to_z-of_z w64 args.floor fits.floor in
