@@ -4,6 +4,7 @@
 
 ghost use Rattle.std.specs.Prelude.{◌≡◌, ◌+◌, ◌*◌, ◌/◌, ◌<◌};
 ghost use Rattle.arrays.specs.At.{at};
+ghost use Rattle.arrays.specs.work.Filled.{Filled};
 ghost use Rattle.table.specs.Row.{Stands};
 ghost use Rattle.net.specs.Net.{first_end, second_end};
 ghost use Rattle.reach.specs.work.Half.{from};
@@ -26,8 +27,13 @@ pub struct Walk {
 }
 
 impl Walk {
-    // Arrays to walk in.
-    pub fn new() -> Walk {
+    // Arrays to walk in, all zeros.
+    pub fn new() -> Walk
+        ensures { Filled 4096 0 result.parent
+            × Filled 4096 0 result.half
+            × Filled 4096 0 result.order
+            × Filled 4096 0 result.place }
+    {
         Walk {
             parent: [0; 4096],
             half: [0; 4096],
