@@ -12,17 +12,13 @@ ghost use Rattle.ground.specs.work.Grounded.{ValueIn};
 use ground::grounded;
 use limits::Limit;
 use pages::{Count, Sums};
+use paths::Swept;
 use reach::Walk;
 use table::SUM_END;
 
 // The first nodes in turn, from the start's on. above, len and wt are work arrays of the paths.
 fn firsts(
-    parent: &[u16; 4096],
-    order: &[u16; 4096],
-    place: &[u16; 4096],
-    bl: &[u64; 4096],
-    bw: &[u64; 4096],
-    n: usize,
+    swept: &Swept<'_>,
     limit: Limit,
     floor: i64,
     low: usize,
@@ -30,10 +26,11 @@ fn firsts(
     above: &mut [u16; 4096],
     rows: &mut [u8],
 ) -> Count
-    requires { Ground n parent.now order.now place.now bl.now bw.now × (length above.old ≡ 4096) }
-    ensures { (g : Ground n parent.now order.now place.now bl.now
-        bw.now)
-        → Paged (Qualifies (ValueIn g) (Fits limit) floor n) low high rows.old result.given result.left
+    requires { Ground swept.now.n swept.now.parent.now swept.now.order.now swept.now.place.now
+        swept.now.bl.now swept.now.bw.now × (length above.old ≡ 4096) }
+    ensures { (g : Ground swept.now.n swept.now.parent.now swept.now.order.now swept.now.place.now
+        swept.now.bl.now swept.now.bw.now)
+        → Paged (Qualifies (ValueIn g) (Fits limit) floor swept.now.n) low high rows.old result.given result.left
         rows.new }
 {
     let mut len: [u64; 4096] = [0; 4096];
@@ -44,8 +41,9 @@ fn firsts(
         end: SUM_END,
     };
     let mut k = Count { given: 0, left: 0 };
+    let n = swept.n;
     for u in low..n {
-        paths::paths_from(parent, order, place, bl, bw, n, u, above, &mut len, &mut wt);
+        swept.paths_from(u, above, &mut len, &mut wt);
         let from = pages::first_second(low, high, u, n);
         k = pages::seconds(rows, room, &len, &len, &wt, u, from, n, limit, sums, k);
     }
@@ -72,13 +70,16 @@ pub(crate) fn page(
     let mut bl: [u64; 4096] = [0; 4096];
     let mut bw: [u64; 4096] = [0; 4096];
     grounded(s, marks, nodes, walk, &mut bl, &mut bw);
+    let swept = Swept {
+        n: usize::from(nodes),
+        parent: &walk.parent,
+        order: &walk.order,
+        place: &walk.place,
+        bl: &bl,
+        bw: &bw,
+    };
     firsts(
-        &walk.parent,
-        &walk.order,
-        &walk.place,
-        &bl,
-        &bw,
-        usize::from(nodes),
+        &swept,
         limit,
         floor,
         usize::from(low),

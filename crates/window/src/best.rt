@@ -9,6 +9,7 @@ ghost use Rattle.paths.specs.work.Paths.{ArraysLent};
 ghost use Rattle.window.specs.work.Best.{InLimits, BetterOf, Bettered, Stand, Best};
 
 use pages::Sums;
+use paths::Swept;
 
 // The branch counts that pass.
 #[derive(Clone, Copy)]
@@ -94,17 +95,12 @@ fn met(count: u64, counts: CountLimits, all: bool) -> bool
     !all && count == counts.most
 }
 
-// The best of the pairs whose first node is `first` or a later one; both operations begin with 0. ones has 1 for the
-// length of each branch, so that the lengths of paths are their branch counts; above, key and wt are work arrays of the
+// The best of the pairs whose first node is `first` or a later one; both operations begin with 0. In ones each
+// branch is 1 long, so that the lengths of paths are their branch counts; above, key and wt are work arrays of the
 // paths. hits gets 1 for every first node that may have a pair of the best one's count; who asks for these, to look at
 // no others, has all first nodes looked at.
 pub(crate) fn best(
-    parent: &[u16; 4096],
-    order: &[u16; 4096],
-    place: &[u16; 4096],
-    ones: &[u64; 4096],
-    bw: &[u64; 4096],
-    n: usize,
+    ones: &Swept<'_>,
     first: usize,
     all: bool,
     counts: CountLimits,
@@ -114,10 +110,10 @@ pub(crate) fn best(
     wt: &mut [u64; 4096],
     hits: &mut [u16; 4096],
 ) -> Found
-    requires { Ground n parent.now order.now place.now ones.now bw.now
+    requires { Ground ones.now.n ones.now.parent.now ones.now.order.now ones.now.place.now ones.now.bl.now ones.now.bw.now
         × ArraysLent above.old key.old wt.old }
-    ensures { ((g : Stand n parent.now order.now place.now ones.now
-        bw.now sums)
+    ensures { ((g : Stand ones.now.n ones.now.parent.now ones.now.order.now ones.now.place.now ones.now.bl.now
+        ones.now.bw.now sums)
         → Best first counts g hits.new result)
         × ArraysLent above.new key.new wt.new }
 {
@@ -129,11 +125,12 @@ pub(crate) fn best(
         weight: 0,
         hit: 0,
     };
+    let n = ones.n;
     for u in first..n {
         if met(b.count, counts, all) {
             return b;
         }
-        paths::paths_from(parent, order, place, ones, bw, n, u, above, key, wt);
+        ones.paths_from(u, above, key, wt);
         b = among(key, wt, u, n, counts, sums, b);
         hits[u] = b.hit;
     }

@@ -19,6 +19,7 @@ use best::{CountLimits, Found, best};
 use ground::grounded;
 use pages::Sums;
 use paging::{Listed, Rows};
+use paths::Swept;
 use reach::Walk;
 use tree::Refusal;
 
@@ -90,13 +91,16 @@ fn search(s: &[u8], marks: &[u16], nodes: u16, asked: Asked, walk: &mut Walk) ->
     let n = usize::from(nodes);
     let counts = asked.counts();
     let sums = asked.sums();
-    best(
-        &walk.parent,
-        &walk.order,
-        &walk.place,
-        &bl,
-        &bw,
+    let ones = Swept {
         n,
+        parent: &walk.parent,
+        order: &walk.order,
+        place: &walk.place,
+        bl: &bl,
+        bw: &bw,
+    };
+    best(
+        &ones,
         0,
         false,
         counts,

@@ -14,17 +14,13 @@ use crate::best::best;
 use ground::grounded;
 use limits::Limit;
 use pages::{Count, Sums};
+use paths::Swept;
 use reach::Walk;
 
 // The rows of first node u, where it may have a pair of the greatest count. One that has none costs nothing.
 fn rows_of(
-    parent: &[u16; 4096],
-    order: &[u16; 4096],
-    place: &[u16; 4096],
+    swept: &Swept<'_>,
     ones: &[u64; 4096],
-    bl: &[u64; 4096],
-    bw: &[u64; 4096],
-    n: usize,
     u: usize,
     hit: u16,
     low: usize,
@@ -39,33 +35,31 @@ fn rows_of(
     rows: &mut [u8],
     k: Count,
 ) -> Count
-    requires { Both n parent.now order.now place.now ones.now bl.now bw.now
+    requires { Both swept.now.n swept.now.parent.now swept.now.order.now swept.now.place.now
+        ones.now swept.now.bl.now swept.now.bw.now
         × FourLent above.old key.old len.old wt.old
-        × RowsReady rows.old room u n k.left }
-    ensures { RowsOf (Fits limit) n parent.now order.now place.now
-        ones.now bl.now bw.now u hit low high sums rows.old k.given
+        × RowsReady rows.old room u swept.now.n k.left }
+    ensures { RowsOf (Fits limit) swept.now.n swept.now.parent.now swept.now.order.now swept.now.place.now
+        ones.now swept.now.bl.now swept.now.bw.now u hit low high sums rows.old k.given
         k.left rows.new result.given result.left
         × FourLent above.new key.new len.new wt.new }
 {
     if hit != 1 {
         return k;
     }
-    paths::paths_from(parent, order, place, ones, bw, n, u, above, key, wt);
-    paths::paths_from(parent, order, place, bl, bw, n, u, above, len, wt);
+    let counted = Swept { bl: ones, ..*swept };
+    counted.paths_from(u, above, key, wt);
+    swept.paths_from(u, above, len, wt);
+    let n = swept.n;
     let from = pages::first_second(low, high, u, n);
     pages::seconds(rows, room, key, len, wt, u, from, n, limit, sums, k)
 }
 
 // The first nodes in turn, from the start's on. above, key and wt are work arrays of the paths.
 fn firsts(
-    parent: &[u16; 4096],
-    order: &[u16; 4096],
-    place: &[u16; 4096],
+    swept: &Swept<'_>,
     ones: &[u64; 4096],
-    bl: &[u64; 4096],
-    bw: &[u64; 4096],
     hits: &[u16; 4096],
-    n: usize,
     limit: Limit,
     sums: Sums,
     low: usize,
@@ -75,20 +69,23 @@ fn firsts(
     wt: &mut [u64; 4096],
     rows: &mut [u8],
 ) -> Count
-    requires { Both n parent.now order.now place.now ones.now bl.now bw.now
+    requires { Both swept.now.n swept.now.parent.now swept.now.order.now swept.now.place.now
+        ones.now swept.now.bl.now swept.now.bw.now
         × ArraysLent above.old key.old wt.old
-        × Hits (Fits limit) n parent.now order.now place.now ones.now bl.now bw.now sums hits.now }
-    ensures { (g : ListStand n parent.now order.now place.now
-        ones.now bl.now bw.now sums)
+        × Hits (Fits limit) swept.now.n swept.now.parent.now swept.now.order.now swept.now.place.now
+        ones.now swept.now.bl.now swept.now.bw.now sums hits.now }
+    ensures { (g : ListStand swept.now.n swept.now.parent.now swept.now.order.now swept.now.place.now
+        ones.now swept.now.bl.now swept.now.bw.now sums)
         → Paged (ListTaken (Fits limit) g) low high rows.old result.given result.left rows.new }
 {
     let mut len: [u64; 4096] = [0; 4096];
     let room = rows.len() / 16;
     let mut k = Count { given: 0, left: 0 };
+    let n = swept.n;
     for u in low..n {
         k = rows_of(
-            parent, order, place, ones, bl, bw, n, u, hits[u], low, high, limit, sums, room, above,
-            key, &mut len, wt, rows, k,
+            swept, ones, u, hits[u], low, high, limit, sums, room, above, key, &mut len, wt, rows,
+            k,
         );
     }
     k
@@ -122,13 +119,17 @@ pub(crate) fn page(
     let from = usize::from(low);
     let counts = asked.counts();
     let sums = asked.sums();
-    let b = best(
-        &walk.parent,
-        &walk.order,
-        &walk.place,
-        &ones,
-        &bw,
+    let swept = Swept {
         n,
+        parent: &walk.parent,
+        order: &walk.order,
+        place: &walk.place,
+        bl: &bl,
+        bw: &bw,
+    };
+    let counted = Swept { bl: &ones, ..swept };
+    let b = best(
+        &counted,
         0,
         true,
         counts,
@@ -146,14 +147,9 @@ pub(crate) fn page(
         exact: true,
     };
     firsts(
-        &walk.parent,
-        &walk.order,
-        &walk.place,
+        &swept,
         &ones,
-        &bl,
-        &bw,
         &hits,
-        n,
         limit,
         sums,
         from,

@@ -5,7 +5,7 @@ use Rattle.window.proofs.Scanning.{searched_none, searched_next, searched_end, s
 use Rattle.window.proofs.best.best.Goals.{In-loop-u}
 use Rattle.window.proofs.best.best.Goals as goal
 
-few : (c : In-loop-u) → c.args.n ≤ 4096
+few : (c : In-loop-u) → c.args.ones.now.n ≤ 4096
 few c = c.requires.0.grown.some.1
 
 pub loop-u-init : goal.loop-u-init

@@ -9,6 +9,7 @@ use Rattle.window.proofs.best.best.Given as goal
 
 abbrev pub invariant-loop-u : goal.invariant-loop-u
 invariant-loop-u l =
-    ((g : Stand l.n l.parent l.order l.place l.ones l.bw l.sums) → Searched l.counts g l.first l.u l.hits l.b)
+    ((g : Stand l.ones.n l.ones.parent.now l.ones.order.now l.ones.place.now l.ones.bl.now l.ones.bw.now l.sums)
+    → Searched l.counts g l.first l.u l.hits l.b)
     × ArraysLent l.above l.key l.wt
     × (length l.hits ≡ 4096)

@@ -7,7 +7,7 @@ use Rattle.window.proofs.Scanning.{taken_next, taken_end}
 use Rattle.window.proofs.scan.firsts.Goals.{In-loop-u}
 use Rattle.window.proofs.scan.firsts.Goals as goal
 
-few : (c : In-loop-u) → c.args.n ≤ 4096
+few : (c : In-loop-u) → c.args.swept.now.n ≤ 4096
 few c = c.requires.0.keys.grown.some.1
 
 pub loop-u-init : goal.loop-u-init

@@ -7,7 +7,8 @@ use Rattle.window.proofs.scan.firsts.Given as goal
 
 abbrev pub invariant-loop-u : goal.invariant-loop-u
 invariant-loop-u l =
-    Scanning (ListStand l.n l.parent l.order l.place l.ones l.bl l.bw l.sums) (ListTaken (Fits l.limit)) l.low l.high
+    Scanning (ListStand l.swept.n l.swept.parent.now l.swept.order.now l.swept.place.now l.ones l.swept.bl.now
+    l.swept.bw.now l.sums) (ListTaken (Fits l.limit)) l.low l.high
     l.initial.rows l.room l.u l.k.given
     l.k.left l.rows
     × FourLent l.above l.key l.len l.wt

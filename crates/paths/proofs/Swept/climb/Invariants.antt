@@ -4,12 +4,12 @@
 use Prim.Native.Nat.{◌<◌}
 use Rattle.arrays.specs.At.{at}
 use Rattle.paths.specs.work.Sweeps.{Climbable, Climbing}
-use Rattle.paths.proofs.climb.Given as goal
+use Rattle.paths.proofs.Swept.climb.Given as goal
 
 abbrev pub invariant-loop-x : goal.invariant-loop-x
 invariant-loop-x l =
-    Climbing l.n l.a l.parent l.place l.bl l.bw l.x l.length l.weight l.above
-    × Climbable l.n l.a l.parent l.place l.bl l.bw × (l.x < 4096)
+    Climbing l.self.n l.a l.self.parent.now l.self.place.now l.self.bl.now l.self.bw.now l.x l.length l.weight l.above
+    × Climbable l.self.n l.a l.self.parent.now l.self.place.now l.self.bl.now l.self.bw.now × (l.x < 4096)
 
 abbrev pub decreases-loop-x : goal.decreases-loop-x
-decreases-loop-x l = at l.place l.x
+decreases-loop-x l = at l.self.place.now l.x

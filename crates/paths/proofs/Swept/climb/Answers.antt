@@ -3,15 +3,15 @@ use mathlib.Core.Path.{refl}
 use native.Mathlib.Omega.{arith}
 use Rattle.arrays.specs.At.{at}
 use Rattle.paths.proofs.Climbs.{climbing_start, climbing_step, climbing_end, climb_node, climb_fits, climb_less}
-use Rattle.paths.proofs.climb.Goals.{In-loop-x}
-use Rattle.paths.proofs.climb.Goals as goal
+use Rattle.paths.proofs.Swept.climb.Goals.{In-loop-x}
+use Rattle.paths.proofs.Swept.climb.Goals as goal
 
 sums_fit : (c : In-loop-x)
     → (c.loop-x.length ≤ 4096000000)
-    × (at c.args.bl.now c.loop-x.x ≤ 1000000)
+    × (at c.args.self.now.bl.now c.loop-x.x ≤ 1000000)
     × (1000000 ≤ c.loop-x.weight)
     × (c.loop-x.weight ≤ 17179869184)
-    × (at c.args.bw.now c.loop-x.x ≤ 2000000)
+    × (at c.args.self.now.bw.now c.loop-x.x ≤ 2000000)
 sums_fit c = climb_fits c.loop-x.invariant.0 c.loop-x.invariant.1 c.loop-x-test.true
 
 pub clear-requires : goal.clear-requires
@@ -36,13 +36,13 @@ pub loop-x-smaller : goal.loop-x-smaller
 loop-x-smaller c =
     let loop-test-taken = c.loop-x-test.true in
     let loop-inv = c.loop-x.invariant in
-    climb_less loop-inv.0 loop-inv.1 loop-test-taken c.wide-x.result c.wide-x.ensures.0
+    climb_less loop-inv.0 loop-inv.1 loop-test-taken c.from-x.result c.from-x.ensures
 
 pub loop-x-preserved : goal.loop-x-preserved
 loop-x-preserved c =
     let loop-test-taken = c.loop-x-test.true in
     let loop-inv = c.loop-x.invariant in
-    let h = climbing_step loop-inv.0 loop-test-taken _ _ _ c.wide-x.ensures.0 refl refl in
+    let h = climbing_step loop-inv.0 loop-test-taken _ _ _ c.from-x.ensures refl refl in
     (h, loop-inv.1, climb_node h loop-inv.1)
 
 pub returns : goal.returns

@@ -3,9 +3,9 @@
 -- stands before its node, so it has its value, and the node's is one step from it (`steps`).
 use Prim.Native.Nat.{◌<◌}
 use Rattle.paths.specs.work.Sweeps.{Sweepable, Sweeping}
-use Rattle.paths.proofs.sweep.Given as goal
+use Rattle.paths.proofs.Swept.sweep.Given as goal
 
 abbrev pub invariant-loop-i : goal.invariant-loop-i
 invariant-loop-i l =
-    Sweeping l.n l.a l.fn.top.length l.fn.top.weight l.parent l.order l.bl l.bw l.above l.i l.len l.wt
-    × Sweepable l.n l.a l.fn.top.length l.fn.top.weight l.parent l.order l.bl l.bw l.above × (0 < l.i)
+    Sweeping l.self.n l.a l.fn.top.length l.fn.top.weight l.self.parent.now l.self.order.now l.self.bl.now l.self.bw.now l.above l.i l.len l.wt
+    × Sweepable l.self.n l.a l.fn.top.length l.fn.top.weight l.self.parent.now l.self.order.now l.self.bl.now l.self.bw.now l.above × (0 < l.i)

@@ -1,7 +1,7 @@
 -- `paths::paths_from` climbs, then sweeps: what the climb leaves of any net is what the sweep begins with.
 use Rattle.paths.proofs.Climbs.{climbable}
 use Rattle.paths.proofs.Sweeps.{sweeping_paths}
-use Rattle.paths.proofs.paths_from.Goals as goal
+use Rattle.paths.proofs.Swept.paths_from.Goals as goal
 
 pub climb-top-requires : goal.climb-top-requires
 climb-top-requires c = (climbable c.requires.0.ground c.requires.0.node, c.requires.1.flags)
