@@ -18,7 +18,7 @@ ghost use Rattle.layout.specs.work.Spotted.{Spotted};
 use crate::laid::{lay_long, lay_names, lay_spots, lay_stops};
 use crate::seats::seats;
 use limits::Limit;
-use parts::{KEY_LIFT, whole};
+use parts::{KEY_LIFT, Lists, Spots, whole};
 use paths::paths_from;
 use reach::Walk;
 use spans::Best;
@@ -135,25 +135,26 @@ pub fn heaviest_pair(
         bl,
         bw,
     );
-    // The two lists in spot and next, their keys in d and w, the spare list in place.
-    whole(
-        &walk.order,
-        &size,
-        &walk.half,
-        &walk.parent,
-        bl,
-        bw,
-        &mut spot,
-        &mut next,
-        &mut d,
-        &mut w,
-        &mut walk.place,
-        n,
-        Limit {
-            most: limit.most + KEY_LIFT,
-            ..limit
-        },
-    )
+    let spots = Spots {
+        stop: &walk.order,
+        head: &size,
+        parent: &walk.half,
+        name: &walk.parent,
+        d: bl,
+        w: bw,
+    };
+    let lists = Lists {
+        x: &mut spot,
+        y: &mut next,
+        ku: &mut d,
+        wu: &mut w,
+        spare: &mut walk.place,
+    };
+    let lifted = Limit {
+        most: limit.most + KEY_LIFT,
+        ..limit
+    };
+    whole(&spots, lists, n, lifted)
 }
 
 // Between crates: each node's spot, in spot, and by spot what tells the path between any two nodes: the spot of the

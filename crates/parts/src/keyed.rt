@@ -6,8 +6,7 @@ ghost use Rattle.arrays.specs.At.{at};
 ghost use Rattle.parts.specs.work.Lift.{Low, World};
 ghost use Rattle.parts.specs.work.Listed.{Sizes, Framed, Listed, Alone, RaisedKeys, Lone};
 
-use crate::KEY_LIFT;
-use arrays::wide;
+use crate::{KEY_LIFT, Lists, Spots};
 use spans::copy;
 
 // out[i] = 2^40 + from[i] - 2 from[p], for each spot i from s to e.
@@ -30,52 +29,38 @@ fn put(out: &mut [u16; 4096], s: usize)
     out[s] = s as u16;
 }
 
-// A node of the spine: both lists are it alone, and it hangs at itself.
-pub(crate) fn alone(
-    x: &mut [u16; 4096],
-    y: &mut [u16; 4096],
-    ku: &mut [u64; 4096],
-    wu: &mut [u64; 4096],
-    d: &[u64; 4096],
-    w: &[u64; 4096],
-    s: usize,
-)
-    requires world { World d.now w.now × (s < 4096) }
-    requires sizes { Sizes x.old y.old ku.old wu.old }
-    ensures lone { Lone d.now w.now s s (s + 1) x.new y.new ku.new
-        wu.new }
-    ensures framed { Framed s (s + 1) x.old y.old ku.old wu.old
-        x.new y.new ku.new wu.new }
-{
-    put(x, s);
-    put(y, s);
-    raise(ku, d, s, s, s + 1);
-    raise(wu, w, s, s, s + 1);
-}
+impl<'a> Lists<'a> {
+    // A node of the spine: both lists are it alone, and it hangs at itself.
+    pub(crate) fn alone(&mut self, spots: &Spots<'_>, s: usize)
+        requires world { World spots.now.d.now spots.now.w.now × (s < 4096) }
+        requires sizes { Sizes self.old.x.now self.old.y.now self.old.ku.now self.old.wu.now }
+        ensures lone { Lone spots.now.d.now spots.now.w.now s s (s + 1) self.new.x.now
+            self.new.y.now self.new.ku.now self.new.wu.now }
+        ensures framed { Framed s (s + 1) self.old.x.now self.old.y.now self.old.ku.now self.old.wu.now
+            self.new.x.now self.new.y.now self.new.ku.now self.new.wu.now }
+        ensures spare { self.new.spare.now ≡ self.old.spare.now }
+    {
+        put(self.x, s);
+        put(self.y, s);
+        raise(self.ku, spots.d, s, s, s + 1);
+        raise(self.wu, spots.w, s, s, s + 1);
+    }
 
-// A hanging tree: its down list x serves as both, and each of its spots hangs at the tree's parent.
-pub(crate) fn hang(
-    parent: &[u16; 4096],
-    x: &[u16; 4096],
-    y: &mut [u16; 4096],
-    ku: &mut [u64; 4096],
-    wu: &mut [u64; 4096],
-    d: &[u64; 4096],
-    w: &[u64; 4096],
-    s: usize,
-    e: usize,
-)
-    requires world { World d.now w.now }
-    requires sizes { Sizes x.now y.old ku.old wu.old }
-    requires listed { Listed d.now x.now s e }
-    requires s_lt_e { (s < e) × (e ≤ 4096) × (at parent.now s < 4096) }
-    ensures lone { Lone d.now w.now (at parent.now s) s e x.now
-        y.new ku.new wu.new }
-    ensures framed { Framed s e x.now y.old ku.old wu.old x.now
-        y.new ku.new wu.new }
-{
-    let p = wide(parent[s]);
-    copy(x, y, s, e);
-    raise(ku, d, p, s, e);
-    raise(wu, w, p, s, e);
+    // A hanging tree: its down list x serves as both, and each of its spots hangs at the tree's parent.
+    pub(crate) fn hang(&mut self, spots: &Spots<'_>, s: usize, e: usize)
+        requires world { World spots.now.d.now spots.now.w.now }
+        requires sizes { Sizes self.old.x.now self.old.y.now self.old.ku.now self.old.wu.now }
+        requires listed { Listed spots.now.d.now self.old.x.now s e }
+        requires s_lt_e { (s < e) × (e ≤ 4096) × (at spots.now.parent.now s < 4096) }
+        ensures lone { Lone spots.now.d.now spots.now.w.now (at spots.now.parent.now s) s e self.new.x.now
+            self.new.y.now self.new.ku.now self.new.wu.now }
+        ensures framed { Framed s e self.old.x.now self.old.y.now self.old.ku.now self.old.wu.now
+            self.new.x.now self.new.y.now self.new.ku.now self.new.wu.now }
+        ensures spare { self.new.spare.now ≡ self.old.spare.now }
+    {
+        let p = usize::from(spots.parent[s]);
+        copy(self.x, self.y, s, e);
+        raise(self.ku, spots.d, p, s, e);
+        raise(self.wu, spots.w, p, s, e);
+    }
 }

@@ -10,5 +10,28 @@ mod spine;
 
 pub use spine::whole;
 
+// What is read of each spot: where its subtree ends, the head of its spine, its parent, both as spots, its node, and
+// its distance and lifted weight from the root.
+#[derive(Clone, Copy)]
+pub struct Spots<'a> {
+    pub stop: &'a [u16; 4096],
+    pub head: &'a [u16; 4096],
+    pub parent: &'a [u16; 4096],
+    pub name: &'a [u16; 4096],
+    pub d: &'a [u64; 4096],
+    pub w: &'a [u64; 4096],
+}
+
+// What is written: for each part of a spine its two lists, x by d and y by ku, the two keys of its spots, and a list to
+// merge in.
+#[derive(Drop)]
+pub struct Lists<'a> {
+    pub x: &'a mut [u16; 4096],
+    pub y: &'a mut [u16; 4096],
+    pub ku: &'a mut [u64; 4096],
+    pub wu: &'a mut [u64; 4096],
+    pub spare: &'a mut [u16; 4096],
+}
+
 // What is added to a difference of distances, and of weights, from the root, so that it is a natural number.
 pub const KEY_LIFT: u64 = 1099511627776;

@@ -1,6 +1,6 @@
 use native.Mathlib.Omega.{arith}
 use Rattle.parts.proofs.Splitting.{splitting_first, splitting_more}
-use Rattle.parts.proofs.items.split.Goals as goal
+use Rattle.parts.proofs.Spots.split.Goals as goal
 
 pub loop-i-init : goal.loop-i-init
 loop-i-init c = (
