@@ -1,12 +1,11 @@
 -- What a table that passed has, for this crate and those above: an opened header's facts, an accepted table's facts,
 -- and how an operation that begins with `examine` goes on where nothing is refused.
 use mathlib.Core.Path.{◌≡◌, refl, sym, ap, ◌∙◌}
-use mathlib.Core.List.{List, [], ◌∷◌}
+use mathlib.Core.List.{List}
 use mathlib.Core.Logic.{◌⊎◌, inl, inr}
 use Prim.Native.Nat.{ℕ, ◌+◌, ◌-◌, ◌*◌, ◌≤◌, ◌<◌}
 use native.Mathlib.Omega.{arith}
-use lib.ListN.{length, take}
-use native.Mathlib.Nat.{sub-zero}
+use lib.ListN.{length}
 use Rattle.table.specs.Bytes.{byte_at}
 use Rattle.table.specs.Refuse.{refused, passed, fine, Only}
 use Rattle.table.specs.Signed.{InRange}

@@ -1,17 +1,12 @@
--- Two's complement in code: what 32 bits mean as a signed number, and −1 − k.
+-- Two's complement in code: −1 − k.
 use mathlib.Core.Path.{◌≡◌, refl, ap}
-use Prim.Native.Nat.{ℕ, zero, suc, ◌-◌, ◌≤◌, ◌<◌, ◌^◌}
+use Prim.Native.Nat.{ℕ, zero, suc, ◌<◌, ◌^◌}
 use native.Mathlib.Nat.{zero-add}
 use lib.IntN.{pos, negsuc, ◌-ℤ◌}
-use mir.Syntax.{Width, w32}
+use mir.Syntax.{Width}
 use mir.Val.{to_z, of_z, SFits, hbits}
 use mir.ValLaws.{to_z_pos, to_z-of_z}
-use borrow.Author.Tests.{le-ltb}
 
-pub bits_high : (u : ℕ) → 2147483648 ≤ u → to_z w32 u ≡ negsuc (4294967296 - suc u)
-bits_high u h = rw (le-ltb u 2147483648 h) refl
-
--- −1 − k
 minus : (k : ℕ) → negsuc 0 -ℤ pos k ≡ negsuc k
 minus zero = refl
 minus (suc k) = ap (λ (n : ℕ). negsuc (suc n)) (zero-add k)

@@ -1,10 +1,10 @@
 -- Scores. Each lies from −50 to 24, so that what a count of cells weighs fits 32 bits, and is in a weight's range where
 -- the count is at most 20,000. Then a row's weight by the table's version.
-use mathlib.Core.Path.{◌≡◌, refl, sym, ◌∙◌}
+use mathlib.Core.Path.{◌≡◌, refl}
 use mathlib.Core.Bool.{Bool, true, false, cond, ◌&&◌}
 use mathlib.Core.List.{List, [], ◌∷◌}
 use mathlib.Core.Logic.{◌≢◌}
-use Prim.Native.Nat.{ℕ, zero, suc, ◌+◌, ◌*◌, ◌≤◌, ◌<◌}
+use Prim.Native.Nat.{ℕ, zero, suc, ◌*◌, ◌≤◌, ◌<◌}
 use native.Mathlib.Nat.{mul-le-mul}
 use native.Mathlib.Decide.{ℕ_discrete}
 use native.Mathlib.Omega.{arith}
@@ -13,26 +13,14 @@ use lib.ListN.{get_or}
 use lib.IntN.{ℤ, pos, negsuc, neg_ℤ, ◌*ℤ◌}
 use mir.Syntax.{w32}
 use mir.Val.{to_z, of_z, SFits}
-use mir.ValLaws.{to_z_pos, to_z-of_z}
+use mir.ValLaws.{to_z-of_z}
 use mir.Facts.{and_yes}
-use borrow.Author.Tests.{lt-ltb, le-ltb, eq-eqb, ne_eqb}
-use Rattle.table.specs.Bytes.{u32_at}
+use borrow.Author.Tests.{eq-eqb}
 use Rattle.table.specs.Signed.{InRange}
 use Rattle.table.specs.Header.{version_of}
 use Rattle.table.specs.Scores.{scores, score_of}
 use Rattle.table.specs.Row.{weight_at, kind_at, count_at}
 use Rattle.table.proofs.Range.{up_within, down_within}
-
--- What each range of kinds beyond the score table scores
-module _ (kind : ℕ) where
-  pub by_filler : 24 ≤ kind → kind < 32 → score_of kind ≡ pos 0
-  by_filler h k = rw (le-ltb kind 24 h, lt-ltb kind 32 k) refl
-
-  pub by_blocked : 32 ≤ kind → kind < 64 → score_of kind ≡ negsuc 49
-  by_blocked h k = rw (le-ltb kind 24 (omega arith), le-ltb kind 32 h, lt-ltb kind 64 k) refl
-
-  pub by_unknown : 64 ≤ kind → score_of kind ≡ pos 0
-  by_unknown h = rw (le-ltb kind 24 (omega arith), le-ltb kind 32 (omega arith), le-ltb kind 64 h) refl
 
 -- No entry of the score table is above 24: tested entry by entry
 abbrev few : List ℕ → Bool
@@ -47,17 +35,7 @@ few_at (x ∷ xs) t (suc k) = few_at xs (and_yes (leb x 24) (few xs) t).1 k
 score_few : (k : ℕ) → get_or scores k 0 ≤ 24
 score_few k = few_at scores tt k
 
--- so an entry fits 32 bits, which mean its kind's score
-pub entry_fits : (kind : ℕ) → SFits w32 (pos (get_or scores kind 0))
-entry_fits kind = record { sfits = omega (arith, score_few kind) }
-
-pub entry_bits : (kind : ℕ) → kind < 24 → to_z w32 (get_or scores kind 0) ≡ score_of kind
-entry_bits kind h = to_z_pos w32 (get_or scores kind 0) (omega (arith, score_few kind)) ∙ sym (by_table h)
-  where
-    by_table : kind < 24 → score_of kind ≡ pos (get_or scores kind 0)
-    by_table h = rw (lt-ltb kind 24 h) refl
-
--- and every score is one of these
+-- so every score is one of these
 data Scored : ℤ → Type 0 where
   above : (n : ℕ) → n ≤ 24 → Scored (pos n)
   blocked : Scored (negsuc 49)
@@ -90,21 +68,19 @@ cells_within count h (above n k) =
     let p : count * n ≤ 20000 * 24 = mul-le-mul h k in up_within (count * n) (omega (arith, p))
 cells_within count h blocked = negative_within (count * 50) (omega arith)
 
--- What the code multiplies: a count, and a score as it is returned
-module _ (kind count : ℕ) {z : ℤ} (h : count < 65536) (f : SFits w32 z) (e : z ≡ score_of kind) where
-  pub weighing : to_z w32 count *ℤ to_z w32 (of_z w32 z) ≡ pos count *ℤ score_of kind
-  weighing = rw (to_z_pos w32 count (omega arith), to_z-of_z w32 z f, e) refl
+-- What the code multiplies: a count and a score, as they are returned
+module _ (kind count : ℕ) {x z : ℤ} (h : count < 65536) (g : SFits w32 x) (d : x ≡ pos count) (f : SFits w32 z)
+    (e : z ≡ score_of kind) where
+  pub weighing : to_z w32 (of_z w32 x) *ℤ to_z w32 (of_z w32 z) ≡ pos count *ℤ score_of kind
+  weighing = rw (to_z-of_z w32 x g, to_z-of_z w32 z f, d, e) refl
 
-  pub weighing_fits : SFits w32 (to_z w32 count *ℤ to_z w32 (of_z w32 z))
+  pub weighing_fits : SFits w32 (to_z w32 (of_z w32 x) *ℤ to_z w32 (of_z w32 z))
   weighing_fits = rw weighing (cells_fit count h (scored kind))
 
 -- A row's weight, by the table's version
 module _ (s : List ℕ) (r : ℕ) where
   pub weight_by_kind : version_of s ≡ 2 → weight_at s r ≡ pos (count_at s r) *ℤ score_of (kind_at s r)
   weight_by_kind e = rw (eq-eqb (version_of s) 2 e) refl
-
-  pub weight_own : version_of s ≢ 2 → weight_at s r ≡ to_z w32 (u32_at s (20 + 12 * r))
-  weight_own n = rw (ne_eqb (version_of s) 2 n) refl
 
   -- the weight of a row that passes 10 and 23 is in range
   pub weight_good : (version_of s ≢ 2 → InRange (weight_at s r)) → (version_of s ≡ 2 → count_at s r ≤ 20000)

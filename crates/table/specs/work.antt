@@ -1,4 +1,5 @@
 -- Working statements: what functions promise each other, and no part of an operation's promise.
 pub mod Diff
 pub mod Lift
+pub mod RowAnswer
 pub mod Standing

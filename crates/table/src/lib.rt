@@ -10,8 +10,9 @@ ghost use Rattle.table.specs.Bytes.{u16_at, u32_at};
 ghost use Rattle.table.specs.Opens.{Opening, opening_refusal, Opens, Examines};
 ghost use Rattle.table.specs.Row.{Stands, PartOf, NextOf, RowOf, weight_at};
 ghost use Rattle.table.specs.Signed.{InRange};
+ghost use Rattle.table.specs.work.RowAnswer.{RowAnswer};
 ghost use Rattle.table.specs.work.Standing.{Standing};
-ghost use Rattle.table.specs.Examine.{RowNumber, RowsTested};
+ghost use Rattle.table.specs.Examine.{RowsTested};
 ghost use Rattle.table.specs.work.Lift.{LiftedOf, LoweredOf};
 ghost use Rattle.table.specs.Reader.{HeldOf, Stepped, FirstOf};
 
@@ -45,31 +46,21 @@ pub struct Row {
     pub weight: i32,
 }
 
-// Widening a byte in a function of its own asks no proof where it is read.
-fn wide16(x: u8) -> u16
-    ensures { (result ≡ x) × (result < 256) }
-{
-    x as u16
-}
-
-fn wide32(x: u8) -> u32
-    ensures { (result ≡ x) × (result < 256) }
-{
-    x as u32
-}
-
 fn u16_at(s: &[u8], i: usize) -> u16
     requires { i + 2 ≤ length s.now }
     ensures { result ≡ u16_at s.now i }
 {
-    wide16(s[i]) + 256 * wide16(s[i + 1])
+    u16::from(s[i]) + 256 * u16::from(s[i + 1])
 }
 
 fn u32_at(s: &[u8], i: usize) -> u32
     requires { i + 4 ≤ length s.now }
     ensures { result ≡ u32_at s.now i }
 {
-    wide32(s[i]) + 256 * wide32(s[i + 1]) + 65536 * wide32(s[i + 2]) + 16777216 * wide32(s[i + 3])
+    u32::from(s[i])
+        + 256 * u32::from(s[i + 1])
+        + 65536 * u32::from(s[i + 2])
+        + 16777216 * u32::from(s[i + 3])
 }
 
 // Tests 1 to 6 alone, in order.
@@ -80,33 +71,21 @@ pub fn open_table(s: &[u8]) -> Opening
     if s.len() < 12 {
         return Err(Refusal { number: 1, row: 0 });
     }
-    if s[0] != 82 {
-        return Err(Refusal { number: 2, row: 0 });
-    }
-    if s[1] != 84 {
-        return Err(Refusal { number: 2, row: 0 });
-    }
-    if s[2] != 78 {
+    if s[0] != b'R' || s[1] != b'T' || s[2] != b'N' {
         return Err(Refusal { number: 2, row: 0 });
     }
     let version = u16_at(s, 3);
-    if version < 1 {
-        return Err(Refusal { number: 3, row: 0 });
-    }
-    if 2 < version {
+    if version < 1 || 2 < version {
         return Err(Refusal { number: 3, row: 0 });
     }
     let nodes = u16_at(s, 5);
-    if nodes < 1 {
-        return Err(Refusal { number: 4, row: 0 });
-    }
-    if 4096 < nodes {
+    if nodes < 1 || 4096 < nodes {
         return Err(Refusal { number: 4, row: 0 });
     }
     if s[7] != 0 {
         return Err(Refusal { number: 5, row: 0 });
     }
-    if s.len() != 12 * (nodes as usize) {
+    if s.len() != 12 * usize::from(nodes) {
         return Err(Refusal { number: 6, row: 0 });
     }
     Ok(Opened {
@@ -119,13 +98,7 @@ pub fn open_table(s: &[u8]) -> Opening
 fn stands(s: &[u8], row: usize) -> bool
     ensures { Standing s.now row result }
 {
-    if s.len() < 24 {
-        return false;
-    }
-    if (s.len() - 24) / 12 < row {
-        return false;
-    }
-    true
+    24 <= s.len() && row <= (s.len() - 24) / 12
 }
 
 // The caller's own 12 bytes of a row, or an empty part where fewer stand there.
@@ -144,10 +117,7 @@ pub fn row_part(s: &[u8], row: usize) -> &[u8]
 pub fn next_row(s: &[u8], row: usize) -> usize
     ensures { NextOf s.now row result }
 {
-    if stands(s, row) {
-        return row + 1;
-    }
-    row
+    if stands(s, row) { row + 1 } else { row }
 }
 
 // 32 bits as a signed number, with no step that could leave its range.
@@ -168,7 +138,7 @@ fn weight_at(s: &[u8], row: usize) -> i32
 {
     if u16_at(s, 3) == 2 {
         let score = score_of(u16_at(s, 20 + 12 * row));
-        let count = u16_at(s, 22 + 12 * row) as i32;
+        let count = i32::from(u16_at(s, 22 + 12 * row));
         return count * score;
     }
     signed(u32_at(s, 20 + 12 * row))
@@ -177,13 +147,7 @@ fn weight_at(s: &[u8], row: usize) -> i32
 fn in_range(weight: i32) -> bool
     ensures { (result ≡ true → InRange weight) × (result ≡ false → InRange weight → ⊥) }
 {
-    if weight < -1000000 {
-        return false;
-    }
-    if 1000000 < weight {
-        return false;
-    }
-    true
+    -1000000 <= weight && weight <= 1000000
 }
 
 // A row's four numbers, all 0 where the table has no such row.
@@ -191,12 +155,11 @@ pub fn row_at(s: &[u8], row: usize) -> Row
     ensures { RowOf s.now row result }
 {
     if stands(s, row) {
-        let w = weight_at(s, row);
         return Row {
             a: u16_at(s, 12 + 12 * row),
             b: u16_at(s, 14 + 12 * row),
             length: u32_at(s, 16 + 12 * row),
-            weight: w,
+            weight: weight_at(s, row),
         };
     }
     Row {
@@ -244,39 +207,36 @@ pub fn lowered(x: u64) -> i64
     (x - SUM_LIFT) as i64
 }
 
-// The first of 7 to 10, 22 and 23 that a row meets, or 0.
-fn row_number(s: &[u8], r: usize, nodes: u16) -> u8
+// The first of 7 to 10, 22 and 23 that a row meets, if any.
+fn row_number(s: &[u8], r: usize, nodes: u16) -> Option<u8>
     requires { Stands s.now r }
-    ensures { RowNumber nodes s.now r result }
+    ensures { RowAnswer nodes s.now r result }
 {
     let a = u16_at(s, 12 + 12 * r);
     let b = u16_at(s, 14 + 12 * r);
-    if nodes <= a {
-        return 7;
-    }
-    if nodes <= b {
-        return 7;
+    if nodes <= a || nodes <= b {
+        return Some(7);
     }
     if a == b {
-        return 8;
+        return Some(8);
     }
     let length = u32_at(s, 16 + 12 * r);
     if 1000000 < length {
-        return 9;
+        return Some(9);
     }
     if u16_at(s, 3) == 2 {
         if 64 <= u16_at(s, 20 + 12 * r) {
-            return 22;
+            return Some(22);
         }
         if 20000 < u16_at(s, 22 + 12 * r) {
-            return 23;
+            return Some(23);
         }
-        return 0;
+        return None;
     }
     if in_range(weight_at(s, r)) {
-        return 0;
+        return None;
     }
-    10
+    Some(10)
 }
 
 // Every row in order, after a good header.
@@ -285,9 +245,8 @@ fn rows(s: &[u8], table: Opened) -> Opening
     ensures { RowsTested Opening opening_refusal s.now table.nodes (λ x. x ≡ Ok table) result }
 {
     for r in 0..usize::from(table.nodes) - 1 {
-        let k = row_number(s, r, table.nodes);
-        if k != 0 {
-            return Err(Refusal { number: k, row: r });
+        if let Some(number) = row_number(s, r, table.nodes) {
+            return Err(Refusal { number, row: r });
         }
     }
     Ok(table)
@@ -323,8 +282,10 @@ pub fn read_from<'a>(table: &'a [u8]) -> Reader<'a>
     ensures { HeldOf table.now table.entry.ref_ptr result.table.now result.table.ref_ptr
         × (result.row ≡ 0) }
 {
-    let t = held(table);
-    Reader { table: t, row: 0 }
+    Reader {
+        table: held(table),
+        row: 0,
+    }
 }
 
 // Hands back the caller's own 12 bytes of the row it stands at and moves on by one; where none stand there, an empty
@@ -334,12 +295,9 @@ pub fn step<'s, 'a>(r: &'s mut Reader<'a>) -> &'a [u8]
         × Stepped r.old.table.now r.old.table.ref_ptr r.old.row result.now result.ref_ptr
         r.new.row }
 {
-    let t = r.table;
-    let k = r.row;
-    let p = row_part(t, k);
-    let n = next_row(t, k);
-    r.row = n;
-    p
+    let part = row_part(r.table, r.row);
+    r.row = next_row(r.table, r.row);
+    part
 }
 
 // The first row's part, by a reader of its own: for callers that have a slice and want no reader.

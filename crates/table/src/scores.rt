@@ -13,9 +13,9 @@ pub(crate) fn score_of(kind: u16) -> i32
     ensures { result ≡ score_of kind }
 {
     match kind {
-        0..=23 => return SCORES[kind as usize] as i32,
-        24..=31 => return 0,
-        32..=63 => return -50,
-        _ => return 0,
+        0..=23 => i32::from(SCORES[usize::from(kind)]),
+        24..=31 => 0,
+        32..=63 => -50,
+        _ => 0,
     }
 }

@@ -2,13 +2,10 @@
 use mir.Syntax.{w64}
 use mir.ValLaws.{to_z_pos}
 use Rattle.table.specs.work.Diff.{up, down}
-use Rattle.table.proofs.Bits.{minus_fits, minus_is}
+use Rattle.table.proofs.Bits.{minus_is}
 use Prim.Native.Nat.{◌-◌}
 use native.Mathlib.Omega.{arith}
 use Rattle.table.proofs.lowered.Goals as goal
-
-pub overflow_sub-result : goal.overflow_sub-result
-overflow_sub-result c = minus_fits w64 (8589934591 - c.args.x) (omega arith)
 
 pub returns-then-x-lt-SUM_LIFT : goal.returns-then-x-lt-SUM_LIFT
 returns-then-x-lt-SUM_LIFT c =

@@ -12,6 +12,8 @@ use mathlib.Core.Logic.{◌⊎◌, inl, inr, ⊎_elim}
 use lib.ListN.{length}
 use native.Mathlib.Omega.{arith}
 use Rattle.table.proofs.open_table.Goals.{Else-s-ne78, Else-version-gt2}
+use Rattle.table.proofs.open_table.Goals.{then-s-ne82-via-then-s-ne82, then-s-ne82-via-else-s-ne82+then-s-ne84}
+use Rattle.table.proofs.open_table.Goals.{then-s-ne82-via-else-s-ne82+else-s-ne84+then-s-ne78}
 use Rattle.table.proofs.open_table.Goals as goal
 
 -- 1 and 2 pass
@@ -38,25 +40,17 @@ versioned : (c : Else-version-gt2)
 versioned c = one_or_two (omega arith) (omega arith)
 
 pub returns-then-s-ne82 : goal.returns-then-s-ne82
-returns-then-s-ne82 c = passed (omega arith) (refused (λ n. c.if-s-ne82.true n.0))
-
-pub returns-then-s-ne84 : goal.returns-then-s-ne84
-returns-then-s-ne84 c = passed (omega arith) (refused (λ n. c.if-s-ne84.true n.1))
-
-pub returns-then-s-ne78 : goal.returns-then-s-ne78
-returns-then-s-ne78 c =
-    passed (omega arith) (refused (λ n. c.if-s-ne78.true n.2))
+returns-then-s-ne82 c =
+    passed (omega arith) (refused (λ n. elim c.then-s-ne82.branch [
+      | then-s-ne82-via-then-s-ne82 w ↦ w.if-s-ne82.true n.0
+      | then-s-ne82-via-else-s-ne82+then-s-ne84 w ↦ w.if-s-ne84.true n.1
+      | then-s-ne82-via-else-s-ne82+else-s-ne84+then-s-ne78 w ↦ w.if-s-ne78.true n.2
+    ]))
 
 pub returns-then-version-lt1 : goal.returns-then-version-lt1
 returns-then-version-lt1 c =
     passed (long (goal.at.returns-then-version-lt1 c).Else-s-ne78)
     (passed (lettered (goal.at.returns-then-version-lt1 c).Else-s-ne78)
-    (refused (⊎_elim (λ e. omega (arith, e)) (λ e. omega (arith, e)))))
-
-pub returns-then-version-gt2 : goal.returns-then-version-gt2
-returns-then-version-gt2 c =
-    passed (long (goal.at.returns-then-version-gt2 c).Else-s-ne78)
-    (passed (lettered (goal.at.returns-then-version-gt2 c).Else-s-ne78)
     (refused (⊎_elim (λ e. omega (arith, e)) (λ e. omega (arith, e)))))
 
 pub returns-then-nodes-lt1 : goal.returns-then-nodes-lt1
@@ -65,12 +59,6 @@ returns-then-nodes-lt1 c =
     (passed (lettered (goal.at.returns-then-nodes-lt1 c).Else-s-ne78)
     (passed (versioned (goal.at.returns-then-nodes-lt1 c).Else-version-gt2) (refused (λ n. omega (arith, n.0)))))
 
-pub returns-then-nodes-gt4096 : goal.returns-then-nodes-gt4096
-returns-then-nodes-gt4096 c =
-    passed (long (goal.at.returns-then-nodes-gt4096 c).Else-s-ne78)
-    (passed (lettered (goal.at.returns-then-nodes-gt4096 c).Else-s-ne78)
-    (passed (versioned (goal.at.returns-then-nodes-gt4096 c).Else-version-gt2) (refused (λ n. omega (arith, n.1)))))
-
 pub returns-then-s-ne0 : goal.returns-then-s-ne0
 returns-then-s-ne0 c =
     passed (long (goal.at.returns-then-s-ne0 c).Else-s-ne78)
@@ -78,11 +66,11 @@ returns-then-s-ne0 c =
     (passed (versioned (goal.at.returns-then-s-ne0 c).Else-version-gt2)
     (passed (omega arith, omega arith) (refused (λ n. omega arith)))))
 
-pub returns-then-s-nodes : goal.returns-then-s-nodes
-returns-then-s-nodes c =
-    passed (long (goal.at.returns-then-s-nodes c).Else-s-ne78)
-    (passed (lettered (goal.at.returns-then-s-nodes c).Else-s-ne78)
-    (passed (versioned (goal.at.returns-then-s-nodes c).Else-version-gt2)
+pub returns-then-s-from : goal.returns-then-s-from
+returns-then-s-from c =
+    passed (long (goal.at.returns-then-s-from c).Else-s-ne78)
+    (passed (lettered (goal.at.returns-then-s-from c).Else-s-ne78)
+    (passed (versioned (goal.at.returns-then-s-from c).Else-version-gt2)
     (passed (omega arith, omega arith) (passed (omega arith) (refused (λ n. omega arith))))))
 
 pub returns : goal.returns
