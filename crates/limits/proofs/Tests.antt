@@ -1,13 +1,10 @@
 -- Answers to a test; and what a length that passes has, whichever way the limit is meant.
 use Prim.Native.Nat.{ℕ, ◌+◌, ◌≤◌}
 use mathlib.Core.Path.{◌≡◌, refl}
-use mathlib.Core.Bool.{Bool, true, false, true≢false, false≢true}
+use mathlib.Core.Bool.{Bool, true, false, false≢true}
 use native.Mathlib.Omega.{arith}
 use Rattle.limits.specs.work.Fits.{Within, Fits, Decides}
 use Rattle.limits.specs.declared.Limit.{Limit}
-
-pub decides_true : {P : Type 0} → P → Decides P true
-decides_true p = record { holds = λ _. p; fails = λ h. absurd (true≢false h) }
 
 pub decides_false : {P : Type 0} → (P → ⊥) → Decides P false
 decides_false n = record { holds = λ h. absurd (false≢true h); fails = λ _. n }

@@ -15,13 +15,9 @@ pub struct Limit {
 pub fn fits(limit: Limit, length: u64) -> bool
     ensures { Decides (Fits limit length) result }
 {
-    if limit.most < length {
-        return false;
-    }
     if limit.exact {
-        if length < limit.most {
-            return false;
-        }
+        length == limit.most
+    } else {
+        length <= limit.most
     }
-    true
 }
