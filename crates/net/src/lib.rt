@@ -10,16 +10,12 @@ pub fn first_end(s: &[u8], r: usize) -> usize
     requires { Stands s.now r }
     ensures { result ≡ first_end s.now r }
 {
-    let q = table::row_at(s, r);
-    let a = q.a;
-    arrays::wide(a)
+    usize::from(table::row_at(s, r).a)
 }
 
 pub fn second_end(s: &[u8], r: usize) -> usize
     requires { Stands s.now r }
     ensures { result ≡ second_end s.now r }
 {
-    let q = table::row_at(s, r);
-    let b = q.b;
-    arrays::wide(b)
+    usize::from(table::row_at(s, r).b)
 }

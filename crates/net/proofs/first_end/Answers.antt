@@ -4,4 +4,4 @@ use Rattle.net.proofs.Net.{reads_first}
 use Rattle.net.proofs.first_end.Goals as goal
 
 pub returns : goal.returns
-returns c = c.wide.ensures.0 ∙ reads_first c.requires c.row_at-q.ensures
+returns c = c.from.ensures ∙ reads_first c.requires c.row_at.ensures

@@ -4,4 +4,4 @@ use Rattle.net.proofs.Net.{reads_second}
 use Rattle.net.proofs.second_end.Goals as goal
 
 pub returns : goal.returns
-returns c = c.wide.ensures.0 ∙ reads_second c.requires c.row_at-q.ensures
+returns c = c.from.ensures ∙ reads_second c.requires c.row_at.ensures
