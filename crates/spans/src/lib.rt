@@ -5,5 +5,5 @@
 mod across;
 mod sorted;
 
-pub use across::{Best, join};
-pub use sorted::{copy, merge};
+pub use across::{Best, Places};
+pub use sorted::{Spans, copy, merge};
