@@ -11,7 +11,7 @@ ghost use Rattle.ground.specs.work.Grounded.{ValueIn};
 
 use ground::grounded;
 use limits::Limit;
-use pages::{Count, Sums};
+use pages::{Count, Paths, Sums};
 use paths::Swept;
 use reach::Walk;
 use table::SUM_END;
@@ -45,7 +45,12 @@ fn firsts(
     for u in low..n {
         swept.paths_from(u, above, &mut len, &mut wt);
         let from = pages::first_second(low, high, u, n);
-        k = pages::seconds(rows, room, &len, &len, &wt, u, from, n, limit, sums, k);
+        let found = Paths {
+            key: &len,
+            len: &len,
+            wt: &wt,
+        };
+        k = pages::seconds(rows, room, &found, u, from, n, limit, sums, k);
     }
     k
 }

@@ -1,6 +1,5 @@
 // Pages of a listing: rows of 16 bytes in lent memory, filled in pair order, one first node at a time. Knows no tree:
-// the keys, the lengths and the lifted weights of a node's paths come in three lent arrays. A key is what the limit is
-// for: a listing that goes by the length lends one array twice.
+// what it asks of a node's paths comes in lent arrays. A key is what the limit is for.
 #![tactic(auto)]
 
 ghost use Rattle.std.specs.Prelude.{◌≡◌, ◌+◌, ◌*◌, ◌≤◌, ◌<◌, length};
@@ -36,6 +35,24 @@ pub struct Count {
     pub left: usize,
 }
 
+// By second node, the keys, the lengths and the lifted weights of a first node's paths. Where the limit is for the
+// length, key and len are one array.
+#[derive(Clone, Copy)]
+pub struct Paths<'a> {
+    pub key: &'a [u64; 4096],
+    pub len: &'a [u64; 4096],
+    pub wt: &'a [u64; 4096],
+}
+
+// A pair with its path's length and lifted weight.
+#[derive(Clone, Copy)]
+struct Pair {
+    low: usize,
+    high: usize,
+    length: u64,
+    weight: u64,
+}
+
 // Between crates: the 64 bits of the signed number that x stands for.
 pub fn bits(x: u64) -> u64
     requires { x < 17179869184 }
@@ -44,29 +61,28 @@ pub fn bits(x: u64) -> u64
     x.wrapping_sub(SUM_LIFT)
 }
 
-// One row: the pair a, b with length l and lifted weight x.
-fn put_row(out: &mut [u8], at: usize, a: usize, b: usize, l: u64, x: u64)
-    requires { (at + 16 ≤ length out.old) × (x < 17179869184) }
-    ensures { out.new ≡ sets out.old at (row (entry a b l (lower x))) }
+// Writes a pair as a row.
+fn put_row(out: &mut [u8], at: usize, p: &Pair)
+    requires { (at + 16 ≤ length out.old) × (p.now.weight < 17179869184) }
+    ensures { out.new ≡ sets out.old at (row (entry p.now.low p.now.high p.now.length (lower p.now.weight))) }
 {
-    put_bytes(out, at, a as u64, 2);
-    put_bytes(out, at + 2, b as u64, 2);
-    put_bytes(out, at + 4, l, 4);
-    let w = bits(x);
-    put_bytes(out, at + 8, w, 8);
+    put_bytes(out, at, p.low as u64, 2);
+    put_bytes(out, at + 2, p.high as u64, 2);
+    put_bytes(out, at + 4, p.length, 4);
+    put_bytes(out, at + 8, bits(p.weight), 8);
 }
 
 // A row more where there is room for it, one more left over where there is none.
-fn add(out: &mut [u8], room: usize, a: usize, b: usize, l: u64, x: u64, c: Count) -> Count
+fn add(out: &mut [u8], room: usize, p: &Pair, c: Count) -> Count
     requires { (16 * room ≤ length out.old)
         × (length out.old < 16 * room + 16)
-        × (x < 17179869184)
+        × (p.now.weight < 17179869184)
         × (c.left < 33554432) }
-    ensures { Added (entry a b l (lower x)) out.old c.given c.left out.new result.given
-        result.left }
+    ensures { Added (entry p.now.low p.now.high p.now.length (lower p.now.weight)) out.old c.given c.left
+        out.new result.given result.left }
 {
     if c.given < room {
-        put_row(out, 16 * c.given, a, b, l, x);
+        put_row(out, 16 * c.given, p);
         return Count {
             given: c.given + 1,
             ..c
@@ -103,9 +119,7 @@ pub fn first_second(s: usize, t: usize, u: usize, n: usize) -> usize
 pub fn seconds(
     out: &mut [u8],
     room: usize,
-    key: &[u64; 4096],
-    len: &[u64; 4096],
-    wt: &[u64; 4096],
+    paths: &Paths<'_>,
     u: usize,
     from: usize,
     n: usize,
@@ -113,14 +127,21 @@ pub fn seconds(
     sums: Sums,
     c: Count,
 ) -> Count
-    requires { SecondsReady out.old room wt.now u from n c.left }
-    ensures { Seconds (Fits limit) key.now len.now wt.now u from sums n
+    requires { SecondsReady out.old room paths.now.wt.now u from n c.left }
+    ensures { Seconds (Fits limit) paths.now.key.now paths.now.len.now paths.now.wt.now u from sums n
         out.old c.given c.left out.new result.given result.left }
 {
+    let Paths { key, len, wt } = *paths;
     let mut k = c;
     for v in from..n {
         if passes(key[v], wt[v], limit, sums) {
-            k = add(out, room, u, v, len[v], wt[v], k);
+            let pair = Pair {
+                low: u,
+                high: v,
+                length: len[v],
+                weight: wt[v],
+            };
+            k = add(out, room, &pair, k);
         }
     }
     k

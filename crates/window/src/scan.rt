@@ -13,7 +13,7 @@ use crate::Asked;
 use crate::best::best;
 use ground::grounded;
 use limits::Limit;
-use pages::{Count, Sums};
+use pages::{Count, Paths, Sums};
 use paths::Swept;
 use reach::Walk;
 
@@ -52,7 +52,8 @@ fn rows_of(
     swept.paths_from(u, above, len, wt);
     let n = swept.n;
     let from = pages::first_second(low, high, u, n);
-    pages::seconds(rows, room, key, len, wt, u, from, n, limit, sums, k)
+    let found = Paths { key, len, wt };
+    pages::seconds(rows, room, &found, u, from, n, limit, sums, k)
 }
 
 // The first nodes in turn, from the start's on. above, key and wt are work arrays of the paths.

@@ -7,8 +7,9 @@ use Rattle.pages.proofs.seconds.Given as goal
 
 abbrev pub invariant-loop-v : goal.invariant-loop-v
 invariant-loop-v l =
-    Seconds (Fits l.limit) l.key l.len l.wt l.u l.from l.sums l.v l.initial.out l.initial.k.given l.initial.k.left
-    l.out l.k.given l.k.left
-    × SecondsReady l.initial.out l.room l.wt l.u l.from l.n l.initial.k.left
+    let p = l.paths in
+    Seconds (Fits l.limit) p.key.now p.len.now p.wt.now l.u l.from l.sums l.v l.initial.out l.initial.k.given
+    l.initial.k.left l.out l.k.given l.k.left
+    × SecondsReady l.initial.out l.room p.wt.now l.u l.from l.n l.initial.k.left
     × (l.from ≤ l.v)
     × (l.v ≤ l.n)
