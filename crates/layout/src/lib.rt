@@ -19,7 +19,7 @@ use crate::laid::{lay_long, lay_names, lay_spots, lay_stops};
 use crate::seats::seats;
 use limits::Limit;
 use parts::{KEY_LIFT, Lists, Spots, whole};
-use paths::paths_from;
+use paths::Swept;
 use reach::Walk;
 use spans::Best;
 use spines::{heads_of, sizes_of};
@@ -99,18 +99,15 @@ pub fn heaviest_pair(
     let mut d: [u64; 4096] = [0; 4096];
     let mut w: [u64; 4096] = [0; 4096];
     // next has the flags of the paths, then main children, then next free spots.
-    paths_from(
-        &walk.parent,
-        &walk.order,
-        &walk.place,
+    let swept = Swept {
+        n,
+        parent: &walk.parent,
+        order: &walk.order,
+        place: &walk.place,
         bl,
         bw,
-        n,
-        0,
-        &mut next,
-        &mut d,
-        &mut w,
-    );
+    };
+    swept.paths_from(0, &mut next, &mut d, &mut w);
     number(
         &walk.parent,
         &walk.order,
@@ -181,9 +178,15 @@ pub fn spots_of(
     let mut d: [u64; 4096] = [0; 4096];
     let mut w: [u64; 4096] = [0; 4096];
     // next has the flags of the paths, then main children, then next free spots.
-    paths_from(
-        parent, order, place, bl, bw, n, 0, &mut next, &mut d, &mut w,
-    );
+    let swept = Swept {
+        n,
+        parent,
+        order,
+        place,
+        bl,
+        bw,
+    };
+    swept.paths_from(0, &mut next, &mut d, &mut w);
     number(
         parent, order, place, n, &mut head, &mut size, spot, &mut next,
     );
