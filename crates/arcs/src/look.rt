@@ -10,6 +10,7 @@ ghost use Rattle.arcs.specs.work.Look.{ChunkIn, ArcsIn};
 use crate::chunk::{Chunk, Links, key_of, turned};
 
 // Whether a place found is one that was not found before and, where the look is strict, its arc has the equal number.
+// `strict` is a condition of this one test, and no step of its own: a closure in its place would say it in more words.
 fn agree(strict: bool, seen: u8, mine: u64, other: u64) -> bool
     ensures { Answers ((seen ≡ 0) × (strict ≡ true → other % 4294967296 ≡ mine % 4294967296)) result }
 {

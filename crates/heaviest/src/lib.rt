@@ -100,6 +100,8 @@ pub fn heaviest_exact(s: &[u8], marks: &[u16]) -> HeaviestAnswer
 }
 
 // Both: whether the bound is meant exactly, and what no such pair is refused by.
+// The mode is a bool, as Limit has it: a condition of one test, which is asked at every pair. `none` is a number, by
+// which `Chooses` promises it.
 fn heaviest_in_mode(s: &[u8], marks: &[u16], exact: bool, none: u8) -> HeaviestAnswer
     ensures { HeaviestWithin none (Within exact (bound_of s.now)) s.now marks.now
         result }

@@ -39,6 +39,7 @@ pub fn listing_exact(
 }
 
 // Both: whether the bound is meant exactly.
+// The mode is a bool, as Limit has it: a condition of one test, which is asked at every pair.
 fn listing_in_mode(
     s: &[u8],
     marks: &[u16],

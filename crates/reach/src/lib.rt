@@ -83,6 +83,8 @@ fn chains(s: &[u8], rows: usize, first: &mut [u16; 4096], next: &mut [u16; 8192]
 }
 
 // Reaches the nodes next to the one at the place head. tail nodes have been reached; the answer is how many then.
+// The chains begin in the walk's array of places, which is read while the other three are written: so the arrays, and
+// not the walk.
 fn visit(
     s: &[u8],
     rows: usize,

@@ -34,6 +34,7 @@ fn passed_heads(
 }
 
 // Between crates: the hops of the path from x to y.
+// Parents and places alone, and not the walk: its half-branches and its order have other things by then.
 pub fn hops(
     parent: &[u16; 4096],
     place: &[u16; 4096],

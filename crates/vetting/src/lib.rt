@@ -36,6 +36,8 @@ pub type Vetted = Result<Verdict, Refusal>;
 
 // Between crates: the verdict on a list of m rows. The nodes have their spots in spot; by spot, above has the parent's
 // spot, far and heavy the distance and the lifted weight from node 0. The three arrays lent are for tables.
+// The promise speaks of each array lent by itself (`Meant`, `RowsAsked`), so they are parameters here, and one struct,
+// Pairs, from here on.
 pub fn vet_rows(
     list: &[u8],
     m: usize,

@@ -89,6 +89,7 @@ fn among(
 
 // Whether the search may end: no pair has more branches than the upper limit. Where all first nodes are to be looked
 // at, never.
+// `all` is a condition of this one test, and no step of its own.
 fn met(count: u64, counts: CountLimits, all: bool) -> bool
     ensures { Decides ((all ≡ false) × (count ≡ counts.most)) result }
 {

@@ -18,6 +18,7 @@ use paths::Swept;
 use reach::Walk;
 
 // The rows of first node u, where it may have a pair of the greatest count. One that has none costs nothing.
+// Many parameters: what is read, what is asked for and four arrays lent, each of a borrow of its own.
 fn rows_of(
     swept: &Swept<'_>,
     ones: &[u64; 4096],
