@@ -8,16 +8,18 @@ use mathlib.Core.List.{List}
 use mathlib.Core.Bool.{true, false}
 use native.Mathlib.Omega.{arith}
 use lib.ListN.{length, take}
+use Rattle.std.specs.Prelude.{Ok, Err}
 use Rattle.table.specs.Refuse.{Unless, refused, passed, Only}
 use Rattle.table.specs.Header.{Header, nodes_of}
 use Rattle.table.specs.Opens.{Opens, opening}
+use Rattle.table.specs.declared.Refusal.{Refusal}
 use Rattle.table.proofs.Refusals.{past, settled, unless_only, unless_map, by_unless}
 use Rattle.table.proofs.Accepted.{Headed, past_header, header_past, header_rest, header_map, opened}
 use Rattle.table.proofs.Only.{header_only}
 use Rattle.changeset.specs.Entries.{Formed, RowsRise}
 use Rattle.changeset.specs.Changed.{WrittenIn}
 use Rattle.changeset.specs.With.{Over, With}
-use Rattle.changeset.specs.work.Buffer.{BufferLent, EntriesPut, BeginsWith, WritesIn}
+use Rattle.changeset.specs.work.Buffer.{BufferLent, EntriesPut, BeginsWith, Writing, writing_refusal, WritesIn}
 use Rattle.changeset.proofs.Changed.{changed_only, changes_none}
 
 none_rise : (n : ℕ) (c : List ℕ) → length c ≡ 6 → RowsRise n c
@@ -106,27 +108,38 @@ module _ {A : Type 0} (refuse : ℕ → ℕ → A) (s : List ℕ) {rest : A → 
   pub header_twice : Header A refuse s rest x → Header A refuse s (Header A refuse s rest) x
   header_twice p = header_map (λ z. z) refuse s (λ h r. past_header refuse {s = s} h r) p
 
+-- what `write_in` gives where it refuses is not what it gives where it does not
+not_written : (k r g : ℕ) → writing_refusal k r g ≡ Ok tt → ⊥
+not_written k r g e = omega (arith, ap taken e)
+  where
+    taken : Writing → ℕ
+    taken (Ok done) = 1
+    taken (Err w) = 0
+
 -- From what `write_in` gave to the operation's own outcome
 module _ (s c out : List ℕ) where
-  written : WritesIn s c out 0 → Headed s × Formed c × RowsRise (nodes_of s) c × Over s c (BeginsWith s out) 0
-  written p = with_past (λ k r g. k) s c (λ k r g n e. n e) p
+  written : WritesIn s c out (Ok tt)
+      → Headed s × Formed c × RowsRise (nodes_of s) c × Over s c (BeginsWith s out) (Ok tt)
+  written p = with_past writing_refusal s c (λ k r g n. not_written k r g) p
 
   -- the part that the operation is given lies in the buffer
-  pub written_fits : WritesIn s c out 0 → length s ≤ 49152
+  pub written_fits : WritesIn s c out (Ok tt) → length s ≤ 49152
   written_fits p = let h = (written p).0 in omega (arith, h.few, h.size)
 
-  pub written_long : WritesIn s c out 0 → length s ≡ length (take (length s) out)
+  pub written_long : WritesIn s c out (Ok tt) → length s ≡ length (take (length s) out)
   written_long p = let o = (written p).3 in sym (ap length o.promise.bytes ∙ o.changed.size)
 
   module _ {A : Type 0} (refuse : ℕ → ℕ → ℕ → A) {Promise : List ℕ → A → Type 0} where
-    pub refused_with : (k : ℕ) → (k ≡ 0 → ⊥) → WritesIn s c out k → With A refuse s c Promise (refuse k 0 0)
-    refused_with k n p =
-        header_map to (λ k r. k) s (λ h. unless_map to (λ f. unless_map to (λ g o. absurd (n o.promise.none)))) p
+    pub refused_with : (w : Refusal) → WritesIn s c out (Err w) → With A refuse s c Promise (refuse w.number w.row 0)
+    refused_with w p =
+        header_map handed (λ k r. writing_refusal k r 0) s
+        (λ h. unless_map handed (λ f. unless_map handed (λ g o. absurd (not_written w.number w.row 0 o.promise.none)))) p
       where
-        to : ℕ → A
-        to i = refuse i 0 0
+        handed : Writing → A
+        handed (Ok done) = refuse 0 0 0
+        handed (Err v) = refuse v.number v.row 0
 
-    pub passed_with : {x : A} → WritesIn s c out 0 → Promise (take (length s) out) x → With A refuse s c Promise x
+    pub passed_with : {x : A} → WritesIn s c out (Ok tt) → Promise (take (length s) out) x → With A refuse s c Promise x
     passed_with p q =
         let h = written p in
         let o = h.3 in
@@ -145,19 +158,19 @@ module _ (s c : List ℕ) (n b : ℕ) (p : Opens s (opening n b)) (out : List �
         room = omega (arith, room, h.0.size, h.0.few);
       }
 
-  pub opened_33 : (Formed c → ⊥) → WritesIn s c out 33
-  opened_33 f = past_header (λ k r. k) {s = s} (opened s n b p).0 (refused f)
+  pub opened_33 : (Formed c → ⊥) → WritesIn s c out (writing_refusal 33 0 0)
+  opened_33 f = past_header (λ k r. writing_refusal k r 0) {s = s} (opened s n b p).0 (refused f)
 
   module _ (f : Formed c) where
-    pub opened_34 : EntriesPut s c n out false → WritesIn s c out 34
+    pub opened_34 : EntriesPut s c n out false → WritesIn s c out (writing_refusal 34 0 0)
     opened_34 w =
         let h = opened s n b p in
-        past_header (λ k r. k) {s = s} h.0 (passed f (refused (rw h.1 at (w.rising.fails refl))))
+        past_header (λ k r. writing_refusal k r 0) {s = s} h.0 (passed f (refused (rw h.1 at (w.rising.fails refl))))
 
-    pub opened_all : EntriesPut s c n out true → WritesIn s c out 0
+    pub opened_all : EntriesPut s c n out true → WritesIn s c out (Ok tt)
     opened_all w =
         let h = opened s n b p in
-        with_over (λ k r g. k) s c h.0 f (rw h.1 at (w.rising.holds refl))
+        with_over writing_refusal s c h.0 f (rw h.1 at (w.rising.holds refl))
         (record {
           table = take (length s) out;
           changed = w.changed refl;
@@ -166,4 +179,4 @@ module _ (s c : List ℕ) (n b : ℕ) (p : Opens s (opening n b)) (out : List �
 
 -- its answer is one; and what it leaves at the front of the buffer is (`changed_only`)
 pub writes_in_only : (s c out : List ℕ) → Only (WritesIn s c out)
-writes_in_only s c out = with_only (λ k r g. k) s c (λ t x y p q. p.none ∙ sym q.none)
+writes_in_only s c out = with_only writing_refusal s c (λ t x y p q. p.none ∙ sym q.none)

@@ -10,6 +10,7 @@ ghost use Rattle.changeset.specs.work.Buffer.{
 };
 
 use crate::entries::{count, formed, number_at};
+use table::Refusal;
 
 // The N bytes of a set from place `from` on, put into the buffer from place `at` on. All are read before the first is
 // stored, so that they can be moved as wider words.
@@ -79,23 +80,18 @@ fn put_rows(table: &[u8], c: &[u8], n: usize, out: &mut [u8]) -> bool
     }
 }
 
-// Between crates: the number of 1 to 6 of the table, of 33 or of 34; or 0, and the changed table, which is as long as
-// the table, stands at the front of the buffer. Nothing is promised of the bytes beyond it, nor of any where it
-// refuses. That 0 is none is what `WritesIn` promises to other crates.
-pub fn write_in(table: &[u8], changes: &[u8], out: &mut [u8]) -> u8
+// Between crates: 1 to 6 of the table, 33 or 34; or nothing is refused, and the changed table, which is as long as the
+// table, stands at the front of the buffer. Nothing is promised of the bytes beyond it, nor of any where it refuses.
+pub fn write_in(table: &[u8], changes: &[u8], out: &mut [u8]) -> Result<(), Refusal>
     requires { 49152 ≤ length out.old }
     ensures { WritesIn table.now changes.now out.new result }
 {
-    match table::open_table(table) {
-        Err(why) => why.number,
-        Ok(opened) => {
-            if !formed(changes) {
-                33
-            } else if put_rows(table, changes, usize::from(opened.nodes), out) {
-                0
-            } else {
-                34
-            }
-        }
+    let opened = table::open_table(table)?;
+    if !formed(changes) {
+        return Err(Refusal { number: 33, row: 0 });
     }
+    if !put_rows(table, changes, usize::from(opened.nodes), out) {
+        return Err(Refusal { number: 34, row: 0 });
+    }
+    Ok(())
 }

@@ -1,6 +1,24 @@
 -- The changed table in a lent buffer: bytes put, the entries put over the table or, where there is one for
 -- every row, in its place, and what writing the changed table gives.
-use Rattle.std.specs.Prelude.{◌≡◌, Bool, true, List, ℕ, ◌+◌, ◌-◌, ◌*◌, ◌≤◌, ◌<◌, length, get_or, take}
+use Rattle.std.specs.Prelude.{
+  ◌≡◌,
+  Bool,
+  true,
+  List,
+  ℕ,
+  ◌+◌,
+  ◌-◌,
+  ◌*◌,
+  ◌≤◌,
+  ◌<◌,
+  length,
+  get_or,
+  take,
+  Result,
+  Ok,
+  Err,
+}
+use Rattle.table.specs.declared.Refusal.{Refusal}
 use Rattle.limits.specs.work.Fits.{Decides}
 use Rattle.changeset.specs.Entries.{RowsRise}
 use Rattle.changeset.specs.Changed.{WrittenIn}
@@ -36,11 +54,18 @@ pub record EntriesPut (s c : List ℕ) (n : ℕ) (out : List ℕ) (q : Bool) : T
   pub rising : Decides (RowsRise n c) q
   pub changed : q ≡ true → WrittenIn s c (take (length s) out)
 
--- 0, and the buffer begins with the table t
-pub record BeginsWith (s out t : List ℕ) (k : ℕ) : Type 0 where
-  pub none : k ≡ 0
+-- the changed table is written, or why not
+abbrev pub Writing : Type 0
+Writing = Result (Unit {0}) Refusal
+
+abbrev pub writing_refusal : ℕ → ℕ → ℕ → Writing
+writing_refusal k r g = Err (record { number = k; row = r })
+
+-- nothing is refused, and the buffer begins with the table t
+pub record BeginsWith (s out t : List ℕ) (o : Writing) : Type 0 where
+  pub none : o ≡ Ok tt
   pub bytes : take (length s) out ≡ t
 
--- the number of 1 to 6, 33 or 34; or 0, and the buffer begins with the changed table
-abbrev pub WritesIn : List ℕ → List ℕ → List ℕ → ℕ → Type 0
-WritesIn s c out = With ℕ (λ k r g. k) s c (BeginsWith s out)
+-- 1 to 6, 33 or 34; or the buffer begins with the changed table
+abbrev pub WritesIn : List ℕ → List ℕ → List ℕ → Writing → Type 0
+WritesIn s c out = With Writing writing_refusal s c (BeginsWith s out)
