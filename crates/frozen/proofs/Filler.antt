@@ -13,8 +13,7 @@ use Rattle.table.proofs.Accepted.{Headed}
 use Rattle.net.specs.Count.{Count}
 use Rattle.net.proofs.Counts.{count_same}
 use Rattle.writer.specs.WriteRow.{Filler}
-use Rattle.accept.specs.Accept.{FillerBelow, accept_refusal}
-use Rattle.accept.specs.declared.AcceptAnswer.TheVariants.{Accepted}
+use Rattle.accept.specs.Accept.{FillerBelow, accept_refusal, accept_answer}
 use Rattle.accept.proofs.Theorems.{not_refused, filler_counted}
 use Rattle.changeset.specs.Shown.{RowShown}
 use Rattle.changeset.specs.Changed.{WrittenIn}
@@ -67,7 +66,7 @@ module _ (s c t : List ℕ) (h : Headed s) (d : WrittenIn s c t) where
       )
 
 -- THE COUNT, ON THE ROWS SHOWN
-pub filler_counted_with : (s c : List ℕ) {n b k : ℕ} → AcceptWith s c (Accepted n b k)
+pub filler_counted_with : (s c : List ℕ) {n b k : ℕ} → AcceptWith s c (accept_answer n b k)
     → Count (FillerShown s c (nodes_of s - 1)) k
 filler_counted_with s c p =
     let w = with_past accept_refusal s c (λ k r g _. not_refused) p in

@@ -1,4 +1,5 @@
 -- Laws of the operations with a change set.
+pub mod Changing
 pub mod None
 pub mod Only
 pub mod Theorems

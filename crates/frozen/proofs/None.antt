@@ -1,5 +1,6 @@
 -- A CHANGE SET OF 6 BYTES CHANGES NOTHING: with it each operation allows exactly the outcome that it allows without a
 -- set, both ways. Every promise begins with 1 to 6, which are then said twice.
+use Rattle.vetting.specs.Vets.{Vetted}
 use Prim.Native.Nat.{ℕ}
 use mathlib.Core.Path.{◌≡◌}
 use mathlib.Core.List.{List}
@@ -10,27 +11,18 @@ use Rattle.table.specs.Header.{Header}
 use Rattle.table.specs.Refuse.{passed}
 use Rattle.table.proofs.Refusals.{settled, unless_map}
 use Rattle.table.proofs.Accepted.{header_map}
-use Rattle.accept.specs.Accept.{accept_refusal, AcceptOf}
-use Rattle.accept.specs.declared.AcceptAnswer.{AcceptAnswer}
-use Rattle.spines.specs.Heads.{heads_refusal, Headings}
-use Rattle.spines.specs.declared.HeadsAnswer.{HeadsAnswer}
-use Rattle.changes.specs.Change.{change_refusal, Commits, Aborts}
+use Rattle.accept.specs.Accept.{accept_refusal, AcceptOf, AcceptAnswer}
+use Rattle.spines.specs.Heads.{heads_refusal, Headings, HeadsAnswer}
+use Rattle.changes.specs.Change.{change_refusal, Commits, Aborts, Change}
 use Rattle.changes.specs.Claim.{Claims}
-use Rattle.changes.specs.declared.Change.{Change}
-use Rattle.convert.specs.Convert.{conversion_refusal, Converts}
-use Rattle.convert.specs.declared.Conversion.{Conversion}
-use Rattle.pair.specs.Pair.{pair_refusal, PairOf}
-use Rattle.pair.specs.declared.PairAnswer.{PairAnswer}
-use Rattle.heaviest.specs.Heaviest.{heaviest_refusal, HeaviestOf, HeaviestExactOf}
-use Rattle.heaviest.specs.declared.HeaviestAnswer.{HeaviestAnswer}
-use Rattle.paging.specs.Paging.{listing_refusal}
-use Rattle.paging.specs.declared.Listed.{Listed}
+use Rattle.convert.specs.Convert.{conversion_refusal, Converts, Conversion}
+use Rattle.pair.specs.Pair.{pair_refusal, PairOf, PairAnswer}
+use Rattle.heaviest.specs.Heaviest.{heaviest_refusal, HeaviestOf, HeaviestExactOf, HeaviestAnswer}
+use Rattle.paging.specs.Paging.{listing_refusal, Listed}
 use Rattle.listing.specs.Listing.{ListingOf, ListingExactOf}
-use Rattle.window.specs.Window.{Window, window_refusal, WindowOf}
+use Rattle.window.specs.Window.{Window, window_refusal, WindowOf, WindowAnswer}
 use Rattle.window.specs.List.{WindowListOf}
-use Rattle.window.specs.declared.WindowAnswer.{WindowAnswer}
 use Rattle.vet.specs.Vet.{vet_refusal, VetOf}
-use Rattle.vetting.specs.declared.Vetted.{Vetted}
 use Rattle.dimacs.specs.Write.{Wrote, write_refusal, WriteOf}
 use Rattle.changeset.specs.Entries.{Formed}
 use Rattle.changeset.specs.With.{With}

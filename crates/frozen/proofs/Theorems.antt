@@ -9,23 +9,20 @@ use mathlib.Core.List.{List}
 use mathlib.Core.Logic.{◌↔◌}
 use lib.IntN.{ℤ}
 use lib.ListN.{length}
+use Rattle.std.specs.Prelude.{Ok}
 use Rattle.arrays.specs.At.{at}
 use Rattle.table.specs.Header.{nodes_of, bound_of}
 use Rattle.table.proofs.Accepted.{Headed, GoodTable}
 use Rattle.net.specs.Net.{first_end, second_end}
 use Rattle.net.specs.Graph.{Ring}
-use Rattle.tree.specs.Accept.{Accepts}
-use Rattle.tree.specs.declared.Acceptance.TheVariants.{Accepted}
+use Rattle.tree.specs.Accept.{Accepts, acceptance}
 use Rattle.accept.specs.Accept.{accept_refusal}
 use Rattle.accept.proofs.Theorems.{ring_exactly}
 use Rattle.marks.specs.Mark.{free, spend, HeldBy, RunNumber}
 use Rattle.changes.specs.Change.{change_refusal, Changes}
 use Rattle.changes.specs.Claim.{Taken}
-use Rattle.changes.specs.declared.Change.TheVariants.{Changed}
 use Rattle.changes.proofs.Theorems as changes
-use Rattle.heaviest.specs.Heaviest.{heaviest_refusal, Heaviest}
-use Rattle.heaviest.specs.declared.HeaviestAnswer.{HeaviestAnswer}
-use Rattle.heaviest.specs.declared.HeaviestAnswer.TheVariants.{Between}
+use Rattle.heaviest.specs.Heaviest.{heaviest_refusal, Heaviest, HeaviestAnswer, between}
 use Rattle.heaviest.proofs.Demand2.{InReach, AtBound, found_best, sixteen_exactly, exact_best, twenty_one_exactly}
 use Rattle.pages.specs.Listing.{Entry, entry}
 use Rattle.paging.specs.Paging.{listing_refusal}
@@ -63,15 +60,15 @@ module _ (s c t : List ℕ) (h : Headed s) (f : Formed c) (g : RowsRise (nodes_o
 
   module _ (marks : List ℕ) where
     -- THE RUN FOUND IS THE HEAVIEST
-    pub found_best_with : {a b l : ℕ} {w : ℤ} → HeaviestWith s c marks (Between a b l w)
+    pub found_best_with : {a b l : ℕ} {w : ℤ} → HeaviestWith s c marks (between a b l w)
         → Heaviest (InReach t marks) (entry a b l w)
     found_best_with p = found_best t marks (with_back heaviest_refusal s c h f g t d p)
 
-    pub exact_best_with : {a b l : ℕ} {w : ℤ} → HeaviestExactWith s c marks (Between a b l w)
+    pub exact_best_with : {a b l : ℕ} {w : ℤ} → HeaviestExactWith s c marks (between a b l w)
         → Heaviest (AtBound t marks) (entry a b l w)
     exact_best_with p = exact_best t marks (with_back heaviest_refusal s c h f g t d p)
 
-    module _ (a : Accepts t (Accepted (nodes_of t) (bound_of t))) (m : length marks ≡ nodes_of t - 1) where
+    module _ (a : Accepts t (acceptance (nodes_of t) (bound_of t))) (m : length marks ≡ nodes_of t - 1) where
       -- NONE EXACTLY
       pub sixteen_exactly_with : (o : HeaviestAnswer) → HeaviestWith s c marks o
           → (o ≡ heaviest_refusal 16 0 0) ↔ ((e : Entry) → ¬ InReach t marks e)
@@ -120,14 +117,14 @@ module _ (s c t : List ℕ) (h : Headed s) (f : Formed c) (g : RowsRise (nodes_o
 
   -- EXACTLY THE MARKS NAMED
   module _ (before : List ℕ) {after : List ℕ} {run k : ℕ} where
-    pub claimed_with : {a b : ℕ} → ClaimsWith s c before run a b (Changed k, after)
+    pub claimed_with : {a b : ℕ} → ClaimsWith s c before run a b (Ok k, after)
         → RunNumber run × Changes (Taken t before (nodes_of t) a b) run before after k
     claimed_with p = changes.claimed t before (with_back (change_refusal before) s c h f g t d p)
 
-    pub committed_with : CommitsWith s c before run (Changed k, after)
+    pub committed_with : CommitsWith s c before run (Ok k, after)
         → RunNumber run × Changes (λ r. HeldBy run (at before r)) (spend run) before after k
     committed_with p = changes.committed t before (with_back (change_refusal before) s c h f g t d p)
 
-    pub aborted_with : AbortsWith s c before run (Changed k, after)
+    pub aborted_with : AbortsWith s c before run (Ok k, after)
         → RunNumber run × Changes (λ r. HeldBy run (at before r)) free before after k
     aborted_with p = changes.aborted t before (with_back (change_refusal before) s c h f g t d p)

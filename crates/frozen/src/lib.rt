@@ -2,12 +2,11 @@
 // asks the operation of it. Nothing of an operation is said here a second time.
 #![tactic(auto)]
 
+mod changed;
 mod lists;
 mod nets;
 mod runs;
 mod texts;
-
-ghost use Rattle.std.specs.Prelude.{◌≡◌};
 
 pub use lists::{listing_exact_with, listing_with, vet_with, window_list_with};
 pub use nets::{
@@ -16,15 +15,3 @@ pub use nets::{
 };
 pub use runs::{abort_with, claim_with, commit_with};
 pub use texts::write_with;
-use tree::Refusal;
-
-// A refusal that names no row.
-fn refusal(number: u8) -> Refusal
-    ensures { result ≡ record { number = number; row = 0; ring = 0 } }
-{
-    Refusal {
-        number,
-        row: 0,
-        ring: 0,
-    }
-}

@@ -2,8 +2,7 @@
 ghost use Rattle.window.specs.Window.{window};
 ghost use Rattle.frozen.specs.Calls.{ListingWith, ListingExactWith, WindowListWith, VetWith};
 
-use crate::refusal;
-use changeset::write_in;
+use crate::changed::{LARGEST, changed_table};
 use paging::Listed;
 use vetting::Vetted;
 
@@ -20,13 +19,9 @@ pub fn listing_with(
     ensures { ListingWith table.now changes.now marks.now floor low high
         rows.old (result, rows.new) }
 {
-    let mut buffer: [u8; 49152] = [0; 49152];
-    let k = write_in(table, changes, &mut buffer);
-    if k != 0 {
-        return Listed::Refused(refusal(k));
-    }
-    let size = table.len();
-    listing::listing(&buffer[..size], marks, floor, low, high, rows)
+    let mut buffer = [0; LARGEST];
+    let changed = changed_table(table, changes, &mut buffer)?;
+    listing::listing(changed, marks, floor, low, high, rows)
 }
 
 // The same of exactly the bound's length.
@@ -42,13 +37,9 @@ pub fn listing_exact_with(
     ensures { ListingExactWith table.now changes.now marks.now floor low high
         rows.old (result, rows.new) }
 {
-    let mut buffer: [u8; 49152] = [0; 49152];
-    let k = write_in(table, changes, &mut buffer);
-    if k != 0 {
-        return Listed::Refused(refusal(k));
-    }
-    let size = table.len();
-    listing::listing_exact(&buffer[..size], marks, floor, low, high, rows)
+    let mut buffer = [0; LARGEST];
+    let changed = changed_table(table, changes, &mut buffer)?;
+    listing::listing_exact(changed, marks, floor, low, high, rows)
 }
 
 // A page of all pairs in a window with the most branches.
@@ -67,22 +58,10 @@ pub fn window_list_with(
     ensures { WindowListWith table.now changes.now marks.now
         (window fewest most floor ceiling) low high rows.old (result, rows.new) }
 {
-    let mut buffer: [u8; 49152] = [0; 49152];
-    let k = write_in(table, changes, &mut buffer);
-    if k != 0 {
-        return Listed::Refused(refusal(k));
-    }
-    let size = table.len();
+    let mut buffer = [0; LARGEST];
+    let changed = changed_table(table, changes, &mut buffer)?;
     window::window_list(
-        &buffer[..size],
-        marks,
-        fewest,
-        most,
-        floor,
-        ceiling,
-        low,
-        high,
-        rows,
+        changed, marks, fewest, most, floor, ceiling, low, high, rows,
     )
 }
 
@@ -91,11 +70,7 @@ pub fn vet_with(table: &[u8], changes: &[u8], marks: &[u16], floor: i64, list: &
     ensures { VetWith table.now changes.now marks.now floor list.now
         result }
 {
-    let mut buffer: [u8; 49152] = [0; 49152];
-    let k = write_in(table, changes, &mut buffer);
-    if k != 0 {
-        return Vetted::Refused(refusal(k));
-    }
-    let size = table.len();
-    vet::vet(&buffer[..size], marks, floor, list)
+    let mut buffer = [0; LARGEST];
+    let changed = changed_table(table, changes, &mut buffer)?;
+    vet::vet(changed, marks, floor, list)
 }

@@ -10,9 +10,8 @@ ghost use Rattle.frozen.specs.Calls.{
   ConvertsWith,
 };
 
-use crate::refusal;
+use crate::changed::{LARGEST, changed_table};
 use accept::AcceptAnswer;
-use changeset::write_in;
 use convert::Conversion;
 use heaviest::HeaviestAnswer;
 use pair::PairAnswer;
@@ -23,52 +22,36 @@ use window::WindowAnswer;
 pub fn accept_with(table: &[u8], changes: &[u8]) -> AcceptAnswer
     ensures { AcceptWith table.now changes.now result }
 {
-    let mut buffer: [u8; 49152] = [0; 49152];
-    let k = write_in(table, changes, &mut buffer);
-    if k != 0 {
-        return AcceptAnswer::Refused(refusal(k));
-    }
-    let size = table.len();
-    accept::accept(&buffer[..size])
+    let mut buffer = [0; LARGEST];
+    let changed = changed_table(table, changes, &mut buffer)?;
+    accept::accept(changed)
 }
 
 // The path between two nodes.
 pub fn pair_with(table: &[u8], changes: &[u8], marks: &[u16], a: u16, b: u16) -> PairAnswer
     ensures { PairWith table.now changes.now marks.now a b result }
 {
-    let mut buffer: [u8; 49152] = [0; 49152];
-    let k = write_in(table, changes, &mut buffer);
-    if k != 0 {
-        return PairAnswer::Refused(refusal(k));
-    }
-    let size = table.len();
-    pair::pair(&buffer[..size], marks, a, b)
+    let mut buffer = [0; LARGEST];
+    let changed = changed_table(table, changes, &mut buffer)?;
+    pair::pair(changed, marks, a, b)
 }
 
 // The heaviest run.
 pub fn heaviest_with(table: &[u8], changes: &[u8], marks: &[u16]) -> HeaviestAnswer
     ensures { HeaviestWith table.now changes.now marks.now result }
 {
-    let mut buffer: [u8; 49152] = [0; 49152];
-    let k = write_in(table, changes, &mut buffer);
-    if k != 0 {
-        return HeaviestAnswer::Refused(refusal(k));
-    }
-    let size = table.len();
-    heaviest::heaviest(&buffer[..size], marks)
+    let mut buffer = [0; LARGEST];
+    let changed = changed_table(table, changes, &mut buffer)?;
+    heaviest::heaviest(changed, marks)
 }
 
 // The same of exactly the bound's length.
 pub fn heaviest_exact_with(table: &[u8], changes: &[u8], marks: &[u16]) -> HeaviestAnswer
     ensures { HeaviestExactWith table.now changes.now marks.now result }
 {
-    let mut buffer: [u8; 49152] = [0; 49152];
-    let k = write_in(table, changes, &mut buffer);
-    if k != 0 {
-        return HeaviestAnswer::Refused(refusal(k));
-    }
-    let size = table.len();
-    heaviest::heaviest_exact(&buffer[..size], marks)
+    let mut buffer = [0; LARGEST];
+    let changed = changed_table(table, changes, &mut buffer)?;
+    heaviest::heaviest_exact(changed, marks)
 }
 
 // The pair in a window with the most branches.
@@ -84,37 +67,25 @@ pub fn window_with(
     ensures { WindowWith table.now changes.now marks.now
         (window fewest most floor ceiling) result }
 {
-    let mut buffer: [u8; 49152] = [0; 49152];
-    let k = write_in(table, changes, &mut buffer);
-    if k != 0 {
-        return WindowAnswer::Refused(refusal(k));
-    }
-    let size = table.len();
-    window::window(&buffer[..size], marks, fewest, most, floor, ceiling)
+    let mut buffer = [0; LARGEST];
+    let changed = changed_table(table, changes, &mut buffer)?;
+    window::window(changed, marks, fewest, most, floor, ceiling)
 }
 
 // Each node's head, into the list.
 pub fn heads_with(table: &[u8], changes: &[u8], list: &mut [u16]) -> HeadsAnswer
     ensures { HeadsWith table.now changes.now list.old (result, list.new) }
 {
-    let mut buffer: [u8; 49152] = [0; 49152];
-    let k = write_in(table, changes, &mut buffer);
-    if k != 0 {
-        return HeadsAnswer::Refused(refusal(k));
-    }
-    let size = table.len();
-    spines::heads(&buffer[..size], list)
+    let mut buffer = [0; LARGEST];
+    let changed = changed_table(table, changes, &mut buffer)?;
+    spines::heads(changed, list)
 }
 
 // Whether an old set of marks reads as it did.
 pub fn convert_with(table: &[u8], changes: &[u8], marks: &[u16]) -> Conversion
     ensures { ConvertsWith table.now changes.now marks.now result }
 {
-    let mut buffer: [u8; 49152] = [0; 49152];
-    let k = write_in(table, changes, &mut buffer);
-    if k != 0 {
-        return Conversion::Refused(refusal(k));
-    }
-    let size = table.len();
-    convert::convert(&buffer[..size], marks)
+    let mut buffer = [0; LARGEST];
+    let changed = changed_table(table, changes, &mut buffer)?;
+    convert::convert(changed, marks)
 }

@@ -1,9 +1,8 @@
 // Claim, commit and abort.
 ghost use Rattle.frozen.specs.Calls.{ClaimsWith, CommitsWith, AbortsWith};
 
-use crate::refusal;
+use crate::changed::{LARGEST, changed_table};
 use changes::Change;
-use changeset::write_in;
 
 // A path's free branches become the run's.
 pub fn claim_with(
@@ -17,13 +16,9 @@ pub fn claim_with(
     ensures { ClaimsWith table.now changes.now marks.old run a b
         (result, marks.new) }
 {
-    let mut buffer: [u8; 49152] = [0; 49152];
-    let k = write_in(table, changes, &mut buffer);
-    if k != 0 {
-        return Change::Refused(refusal(k));
-    }
-    let size = table.len();
-    changes::claim(&buffer[..size], marks, run, a, b)
+    let mut buffer = [0; LARGEST];
+    let changed = changed_table(table, changes, &mut buffer)?;
+    changes::claim(changed, marks, run, a, b)
 }
 
 // What the run holds, unspent, becomes spent.
@@ -31,13 +26,9 @@ pub fn commit_with(table: &[u8], changes: &[u8], marks: &mut [u16], run: u16) ->
     ensures { CommitsWith table.now changes.now marks.old run
         (result, marks.new) }
 {
-    let mut buffer: [u8; 49152] = [0; 49152];
-    let k = write_in(table, changes, &mut buffer);
-    if k != 0 {
-        return Change::Refused(refusal(k));
-    }
-    let size = table.len();
-    changes::commit(&buffer[..size], marks, run)
+    let mut buffer = [0; LARGEST];
+    let changed = changed_table(table, changes, &mut buffer)?;
+    changes::commit(changed, marks, run)
 }
 
 // What the run holds, unspent, becomes free.
@@ -45,11 +36,7 @@ pub fn abort_with(table: &[u8], changes: &[u8], marks: &mut [u16], run: u16) -> 
     ensures { AbortsWith table.now changes.now marks.old run
         (result, marks.new) }
 {
-    let mut buffer: [u8; 49152] = [0; 49152];
-    let k = write_in(table, changes, &mut buffer);
-    if k != 0 {
-        return Change::Refused(refusal(k));
-    }
-    let size = table.len();
-    changes::abort(&buffer[..size], marks, run)
+    let mut buffer = [0; LARGEST];
+    let changed = changed_table(table, changes, &mut buffer)?;
+    changes::abort(changed, marks, run)
 }

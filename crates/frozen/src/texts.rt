@@ -1,9 +1,9 @@
 // Writing the road-graph texts.
 ghost use Rattle.frozen.specs.Calls.{WriteWith};
 
-use crate::refusal;
-use changeset::write_in;
+use crate::changed::{LARGEST, changed_table};
 use dimacs::WriteAnswer;
+use tree::Refusal;
 
 // The two texts of a table of version 1; any other version is refused before the change set is looked at.
 pub fn write_with(
@@ -17,13 +17,13 @@ pub fn write_with(
 {
     let v = dimacs::version_one(table);
     if v != 0 {
-        return WriteAnswer::Refused(refusal(v));
+        return Err(Refusal {
+            number: v,
+            row: 0,
+            ring: 0,
+        });
     }
-    let mut buffer: [u8; 49152] = [0; 49152];
-    let k = write_in(table, changes, &mut buffer);
-    if k != 0 {
-        return WriteAnswer::Refused(refusal(k));
-    }
-    let size = table.len();
-    dimacs::write(&buffer[..size], lengths, weights)
+    let mut buffer = [0; LARGEST];
+    let changed = changed_table(table, changes, &mut buffer)?;
+    dimacs::write(changed, lengths, weights)
 }

@@ -1,38 +1,17 @@
 -- `window_with`: the changed table is written out, and window asked of it.
-use native.Mathlib.Omega.{arith}
 use mir.Syntax.{w64}
 use mir.ValLaws.{to_z-of_z}
+use Rattle.std.proofs.lemmas.Result.{err_from_is_err_and}
 use Rattle.window.specs.Window.{window_refusal}
-use Rattle.changeset.proofs.Withs.{written_fits, written_long, refused_with, passed_with}
+use Rattle.frozen.proofs.Changing.{handed_on, asked_of}
 use Rattle.frozen.proofs.nets.window_with.Goals as goal
 
-pub returns-then-k-ne0 : goal.returns-then-k-ne0
-returns-then-k-ne0 c =
-    let write-in-ensures = c.write_in-k.ensures in
-    let args = c.args in
-    rw c.refusal.ensures
-    (refused_with args.table.now args.changes.now _ window_refusal _ c.if-k-ne0.true write-in-ensures)
-
-pub slice_bounds-buffer-end : goal.slice_bounds-buffer-end
-slice_bounds-buffer-end c =
-    let args = c.args in
-    omega (
-      arith,
-      written_fits args.table.now args.changes.now _
-          (rw c.if-k-ne0.false at c.write_in-k.ensures),
-    )
-
-pub slice_bounds-window-end : goal.slice_bounds-window-end
-slice_bounds-window-end c =
-    let write-in-ensures = c.write_in-k.ensures in
-    let args = c.args in
-    written_long args.table.now args.changes.now _ (rw c.if-k-ne0.false at write-in-ensures)
+pub returns-in_err-changed : goal.returns-in_err-changed
+returns-in_err-changed c =
+    let p = err_from_is_err_and c.from_residual.result c.from_residual.ensures.1 in
+    rw (p.1, p.2) (handed_on c.args.table.now c.args.changes.now window_refusal _ c.in_err-changed.ensures)
 
 pub returns : goal.returns
 returns c =
-    let write-in-ensures = c.write_in-k.ensures in
-    let args = c.args in
-    let fits = c.ranges in
-    passed_with args.table.now args.changes.now _ window_refusal
-    (rw c.if-k-ne0.false at write-in-ensures)
-    (rw (to_z-of_z w64 args.floor fits.floor, to_z-of_z w64 args.ceiling fits.ceiling) at c.window.ensures)
+    asked_of c.args.table.now c.args.changes.now window_refusal c.in_ok-changed.ensures
+    (rw (to_z-of_z w64 c.args.floor c.ranges.floor, to_z-of_z w64 c.args.ceiling c.ranges.ceiling) at c.window.ensures)

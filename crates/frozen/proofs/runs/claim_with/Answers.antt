@@ -1,36 +1,13 @@
 -- `claim_with`: the changed table is written out, and claim asked of it.
-use native.Mathlib.Omega.{arith}
+use Rattle.std.proofs.lemmas.Result.{err_from_is_err_and}
 use Rattle.changes.specs.Change.{change_refusal}
-use Rattle.changeset.proofs.Withs.{written_fits, written_long, refused_with, passed_with}
+use Rattle.frozen.proofs.Changing.{handed_on, asked_of}
 use Rattle.frozen.proofs.runs.claim_with.Goals as goal
 
-pub returns-then-k-ne0 : goal.returns-then-k-ne0
-returns-then-k-ne0 c =
-    let write-in-ensures = c.write_in-k.ensures in
-    let args = c.args in
-    rw c.refusal.ensures
-    (refused_with args.table.now args.changes.now _ (change_refusal args.marks.now) _ c.if-k-ne0.true
-    write-in-ensures)
-
-pub slice_bounds-buffer-end : goal.slice_bounds-buffer-end
-slice_bounds-buffer-end c =
-    let args = c.args in
-    omega (
-      arith,
-      written_fits args.table.now args.changes.now _
-          (rw c.if-k-ne0.false at c.write_in-k.ensures),
-    )
-
-pub slice_bounds-claim-end : goal.slice_bounds-claim-end
-slice_bounds-claim-end c =
-    let write-in-ensures = c.write_in-k.ensures in
-    let args = c.args in
-    written_long args.table.now args.changes.now _ (rw c.if-k-ne0.false at write-in-ensures)
+pub returns-in_err-changed : goal.returns-in_err-changed
+returns-in_err-changed c =
+    let p = err_from_is_err_and c.from_residual.result c.from_residual.ensures.1 in
+    rw (p.1, p.2) (handed_on c.args.table.now c.args.changes.now (change_refusal c.args.marks.now) _ c.in_err-changed.ensures)
 
 pub returns : goal.returns
-returns c =
-    let if1-left = c.if-k-ne0.false in
-    let write-in-ensures = c.write_in-k.ensures in
-    let args = c.args in
-    passed_with args.table.now args.changes.now _ (change_refusal args.marks.now)
-    (rw if1-left at write-in-ensures) c.claim.ensures
+returns c = asked_of c.args.table.now c.args.changes.now (change_refusal c.args.marks.now) c.in_ok-changed.ensures c.claim.ensures

@@ -1,0 +1,2 @@
+-- Working statements: what functions promise each other, and no part of an operation's promise.
+pub mod Changed
