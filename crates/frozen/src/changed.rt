@@ -7,7 +7,9 @@ use tree::Refusal;
 // The bytes of the largest table: 12 for each of 4,096 nodes.
 pub(crate) const LARGEST: usize = 49152;
 
-// The table with the rows of its set written in; or why it cannot be: 1 to 6, 33 or 34.
+// The table with the rows of its set written in; or why it cannot be: 1 to 6, 33 or 34. It hands the table back, and
+// takes no closure to ask: an operation's closure holds the lent marks or rows, and where it is dropped, not called,
+// nothing would say that these stay as they were.
 #[tactic(auto, using(changeset::proofs::Withs::written_fits))]
 pub(crate) fn changed_table<'a>(
     table: &[u8],
