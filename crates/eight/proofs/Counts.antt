@@ -3,26 +3,26 @@
 use Prim.Native.Nat.{ℕ, ◌<◌}
 use mathlib.Core.Path.{◌≡◌}
 use native.Mathlib.Omega.{arith}
-use Rattle.paging.specs.declared.Listed.{Listed}
-use Rattle.paging.specs.declared.Listed.TheVariants.{Rows}
-use Rattle.vetting.specs.declared.Vetted.{Vetted}
-use Rattle.vetting.specs.declared.Vetted.TheVariants.{Fault}
-use Rattle.dimacs.specs.declared.ReadAnswer.{ReadAnswer}
-use Rattle.dimacs.specs.declared.ReadAnswer.TheVariants.{Table}
-use Rattle.dimacs.specs.declared.WriteAnswer.{WriteAnswer}
-use Rattle.dimacs.specs.declared.WriteAnswer.TheVariants.{Texts}
+use Rattle.std.specs.Prelude.{Ok}
+use Rattle.paging.specs.declared.Rows.{Rows}
+use Rattle.paging.specs.Paging.{Listed}
+use Rattle.vetting.specs.Vets.{Vetted}
+use Rattle.vetting.specs.declared.Verdict.TheVariants.{Fault}
+use Rattle.dimacs.specs.Read.{ReadAnswer}
+use Rattle.dimacs.specs.Write.{WriteAnswer}
+use Rattle.dimacs.specs.declared.Texts.{Texts}
 use Rattle.eight.specs.work.Room.{PageRoom, VetRoom, ReadRoom, WriteRoom}
 
-pub counts_fit : {o : Listed} {w l : ℕ} → PageRoom o → o ≡ Rows w l
-    → (w < 9223372036854775808) × (l < 9223372036854775808)
+pub counts_fit : {o : Listed} {rows : Rows} → PageRoom o → o ≡ Ok rows
+    → (rows.written < 9223372036854775808) × (rows.left < 9223372036854775808)
 counts_fit p e = let both = rw e at p in (omega (arith, both), omega (arith, both))
 
-pub fault_fits : {o : Vetted} {i : ℕ} → VetRoom o → o ≡ Fault i → i < 9223372036854775808
+pub fault_fits : {o : Vetted} {i : ℕ} → VetRoom o → o ≡ Ok (Fault i) → i < 9223372036854775808
 fault_fits p e = rw e at p
 
-pub size_fits : {o : ReadAnswer} {k : ℕ} → ReadRoom o → o ≡ Table k → k < 9223372036854775808
+pub size_fits : {o : ReadAnswer} {k : ℕ} → ReadRoom o → o ≡ Ok k → k < 9223372036854775808
 size_fits p e = rw e at p
 
-pub sizes_fit : {o : WriteAnswer} {a b : ℕ} → WriteRoom o → o ≡ Texts a b
-    → (a < 9223372036854775808) × (b < 9223372036854775808)
+pub sizes_fit : {o : WriteAnswer} {texts : Texts} → WriteRoom o → o ≡ Ok texts
+    → (texts.lengths < 9223372036854775808) × (texts.weights < 9223372036854775808)
 sizes_fit p e = rw e at p

@@ -1,2 +1,3 @@
 -- Laws of the eight numbers.
 pub mod Counts
+pub mod Numbers

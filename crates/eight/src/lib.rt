@@ -37,7 +37,7 @@ ghost use Rattle.eight.specs.work.Room.{
   MeshRoom,
 };
 
-use crate::answer::{fill, fill_wide, refuse};
+use crate::answer::{fine, refuse};
 use accept::AcceptAnswer;
 use changes::Change;
 use convert::Conversion;
@@ -47,7 +47,8 @@ use mesh::MeshAnswer;
 use paging::Listed;
 use pair::PairAnswer;
 use spines::HeadsAnswer;
-use vetting::Vetted;
+use tree::Refusal;
+use vetting::{Verdict, Vetted};
 use window::WindowAnswer;
 use writer::RowAnswer;
 
@@ -57,23 +58,16 @@ pub fn show_accept(o: AcceptAnswer, answer: &mut [i64; 8]) -> u8
     ensures { call result answer.new [] ≡ accept_in_c o }
 {
     match o {
-        AcceptAnswer::Refused(why) => refuse(why, answer),
-        AcceptAnswer::Accepted {
-            nodes,
-            bound,
-            filler,
-        } => {
-            fill(
-                answer,
+        Ok(o) => fine(
+            [
+                i64::from(o.nodes),
+                i64::from(o.bound),
+                i64::from(o.filler),
                 0,
-                0,
-                0,
-                nodes as i64,
-                bound as i64,
-                filler as i64,
-                0,
-            )
-        }
+            ],
+            answer,
+        ),
+        Err(why) => refuse(why, answer),
     }
 }
 
@@ -83,12 +77,11 @@ pub fn show_pair(o: PairAnswer, answer: &mut [i64; 8]) -> u8
     ensures { call result answer.new [] ≡ pair_in_c o }
 {
     match o {
-        PairAnswer::Refused(why) => refuse(why, answer),
-        PairAnswer::Found {
-            length,
-            weight,
-            hops,
-        } => { fill(answer, 0, 0, 0, length as i64, weight, hops as i64, 0) }
+        Ok(o) => fine(
+            [i64::from(o.length), o.weight, i64::from(o.hops), 0],
+            answer,
+        ),
+        Err(why) => refuse(why, answer),
     }
 }
 
@@ -98,24 +91,16 @@ pub fn show_heaviest(o: HeaviestAnswer, answer: &mut [i64; 8]) -> u8
     ensures { call result answer.new [] ≡ heaviest_in_c o }
 {
     match o {
-        HeaviestAnswer::Refused(why) => refuse(why, answer),
-        HeaviestAnswer::Between {
-            low,
-            high,
-            length,
-            weight,
-        } => {
-            fill(
-                answer,
-                0,
-                0,
-                0,
-                low as i64,
-                high as i64,
-                length as i64,
-                weight,
-            )
-        }
+        Ok(o) => fine(
+            [
+                i64::from(o.low),
+                i64::from(o.high),
+                i64::from(o.length),
+                o.weight,
+            ],
+            answer,
+        ),
+        Err(why) => refuse(why, answer),
     }
 }
 
@@ -125,24 +110,16 @@ pub fn show_window(o: WindowAnswer, answer: &mut [i64; 8]) -> u8
     ensures { call result answer.new [] ≡ window_in_c o }
 {
     match o {
-        WindowAnswer::Refused(why) => refuse(why, answer),
-        WindowAnswer::Most {
-            low,
-            high,
-            count,
-            weight,
-        } => {
-            fill(
-                answer,
-                0,
-                0,
-                0,
-                low as i64,
-                high as i64,
-                count as i64,
-                weight,
-            )
-        }
+        Ok(o) => fine(
+            [
+                i64::from(o.low),
+                i64::from(o.high),
+                i64::from(o.count),
+                o.weight,
+            ],
+            answer,
+        ),
+        Err(why) => refuse(why, answer),
     }
 }
 
@@ -152,8 +129,8 @@ pub fn show_heads(o: HeadsAnswer, answer: &mut [i64; 8]) -> u8
     ensures { (list : List ℕ) → call result answer.new list ≡ heads_in_c (o, list) }
 {
     match o {
-        HeadsAnswer::Refused(why) => refuse(why, answer),
-        HeadsAnswer::Written => fill(answer, 0, 0, 0, 0, 0, 0, 0),
+        Ok(()) => fine([0; 4], answer),
+        Err(why) => refuse(why, answer),
     }
 }
 
@@ -163,10 +140,8 @@ pub fn show_page(o: Listed, answer: &mut [i64; 8]) -> u8
     ensures { (rows : List ℕ) → call result answer.new rows ≡ listing_in_c (o, rows) }
 {
     match o {
-        Listed::Refused(why) => refuse(why, answer),
-        Listed::Rows { written, left } => {
-            fill(answer, 0, 0, 0, written as i64, left as i64, 0, 0)
-        }
+        Ok(o) => fine([o.written as i64, o.left as i64, 0, 0], answer),
+        Err(why) => refuse(why, answer),
     }
 }
 
@@ -176,10 +151,10 @@ pub fn show_vet(o: Vetted, answer: &mut [i64; 8]) -> u8
     ensures { call result answer.new [] ≡ vet_in_c o }
 {
     match o {
-        Vetted::Refused(why) => refuse(why, answer),
-        Vetted::Yes => fill(answer, 0, 0, 0, 1, 0, 0, 0),
-        Vetted::Fault { row } => { fill(answer, 0, 0, 0, 2, row as i64, 0, 0) }
-        Vetted::Missing { low, high } => { fill(answer, 0, 0, 0, 3, 0, low as i64, high as i64) }
+        Ok(Verdict::Yes) => fine([1, 0, 0, 0], answer),
+        Ok(Verdict::Fault { row }) => fine([2, row as i64, 0, 0], answer),
+        Ok(Verdict::Missing { low, high }) => fine([3, 0, i64::from(low), i64::from(high)], answer),
+        Err(why) => refuse(why, answer),
     }
 }
 
@@ -189,8 +164,8 @@ pub fn show_change(o: Change, answer: &mut [i64; 8]) -> u8
     ensures { (marks : List ℕ) → call result answer.new marks ≡ change_in_c (o, marks) }
 {
     match o {
-        Change::Refused(why) => refuse(why, answer),
-        Change::Changed(count) => { fill(answer, 0, 0, 0, count as i64, 0, 0, 0) }
+        Ok(count) => fine([i64::from(count), 0, 0, 0], answer),
+        Err(why) => refuse(why, answer),
     }
 }
 
@@ -200,8 +175,8 @@ pub fn show_conversion(o: Conversion, answer: &mut [i64; 8]) -> u8
     ensures { call result answer.new [] ≡ conversion_in_c o }
 {
     match o {
-        Conversion::Refused(why) => refuse(why, answer),
-        Conversion::Converted => fill(answer, 0, 0, 0, 0, 0, 0, 0),
+        Ok(()) => fine([0; 4], answer),
+        Err(why) => refuse(why, answer),
     }
 }
 
@@ -211,8 +186,8 @@ pub fn show_read(o: ReadAnswer, answer: &mut [i64; 8]) -> u8
     ensures { (table : List ℕ) → call result answer.new table ≡ read_in_c (o, table) }
 {
     match o {
-        ReadAnswer::Refused(why) => refuse(why, answer),
-        ReadAnswer::Table { size } => { fill(answer, 0, 0, 0, size as i64, 0, 0, 0) }
+        Ok(size) => fine([size as i64, 0, 0, 0], answer),
+        Err(why) => refuse(why, answer),
     }
 }
 
@@ -223,10 +198,8 @@ pub fn show_write(o: WriteAnswer, answer: &mut [i64; 8]) -> u8
         → (call result answer.new lengths, weights) ≡ write_in_c (o, lengths, weights) }
 {
     match o {
-        WriteAnswer::Refused(why) => refuse(why, answer),
-        WriteAnswer::Texts { lengths, weights } => {
-            fill(answer, 0, 0, 0, lengths as i64, weights as i64, 0, 0)
-        }
+        Ok(o) => fine([o.lengths as i64, o.weights as i64, 0, 0], answer),
+        Err(why) => refuse(why, answer),
     }
 }
 
@@ -236,8 +209,8 @@ pub fn show_row(o: RowAnswer, answer: &mut [i64; 8]) -> u8
     ensures { (row : List ℕ) → call result answer.new row ≡ row_in_c (o, row) }
 {
     match o {
-        RowAnswer::Refused(why) => fill(answer, why.number, why.row, 0, 0, 0, 0, 0),
-        RowAnswer::Written => fill(answer, 0, 0, 0, 0, 0, 0, 0),
+        Ok(()) => fine([0; 4], answer),
+        Err(why) => refuse(Refusal::from(why), answer),
     }
 }
 
@@ -247,11 +220,15 @@ pub fn show_mesh(o: MeshAnswer, answer: &mut [i64; 8]) -> u8
     ensures { call result answer.new [] ≡ mesh_in_c o }
 {
     match o {
-        MeshAnswer::Refused(why) => { fill_wide(answer, why.number, why.row, why.ring, 0, 0, 0, 0) }
-        MeshAnswer::Most {
-            branches,
-            low,
-            high,
-        } => { fill(answer, 0, 0, 0, branches as i64, low as i64, high as i64, 0) }
+        Ok(o) => fine(
+            [
+                i64::from(o.branches),
+                i64::from(o.low),
+                i64::from(o.high),
+                0,
+            ],
+            answer,
+        ),
+        Err(why) => refuse(why, answer),
     }
 }

@@ -1,21 +1,19 @@
 -- `show_accept` shows a refusal as it stands, or the fields as signed numbers.
-use native.Mathlib.Omega.{arith}
-use mir.Syntax.{w64}
-use mir.ValLaws.{to_z_pos}
 use mathlib.Core.List.{[]}
+use Rattle.eight.proofs.Numbers.{kept, widened}
 use Rattle.eight.proofs.show_accept.Goals as goal
 
 pub refuse-requires : goal.refuse-requires
-refuse-requires c = rw c.in-Refused.is at c.requires
+refuse-requires c = let told = rw c.in-Err.is at c.requires in widened told
 
-pub returns-in-Refused : goal.returns-in-Refused
-returns-in-Refused c = rw c.in-Refused.is (c.refuse.ensures [])
-
-pub returns-in-Accepted : goal.returns-in-Accepted
-returns-in-Accepted c =
-    rw c.in-Accepted.is
+pub returns-in-Ok : goal.returns-in-Ok
+returns-in-Ok c =
+    rw c.in-Ok.is
     (rw (
-      to_z_pos w64 c.in-Accepted.nodes (omega arith),
-      to_z_pos w64 c.in-Accepted.bound (omega arith),
-      to_z_pos w64 c.in-Accepted.filler (omega arith),
-    ) at (c.fill.ensures []))
+      kept c.from.ensures c.from.type_inv,
+      kept c.from-in-Ok.ensures c.from-in-Ok.type_inv,
+      kept c.from-in-Ok-2.ensures c.from-in-Ok-2.type_inv,
+    ) at (c.fine.ensures []))
+
+pub returns-in-Err : goal.returns-in-Err
+returns-in-Err c = rw c.in-Err.is (c.refuse.ensures [])

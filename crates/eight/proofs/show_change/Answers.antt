@@ -1,15 +1,13 @@
 -- `show_change` shows a refusal as it stands, or the count as a signed number.
-use native.Mathlib.Omega.{arith}
-use mir.Syntax.{w64}
-use mir.ValLaws.{to_z_pos}
+use Rattle.eight.proofs.Numbers.{kept, widened}
 use Rattle.eight.proofs.show_change.Goals as goal
 
 pub refuse-requires : goal.refuse-requires
-refuse-requires c = rw c.in-Refused.is at c.requires
+refuse-requires c = let told = rw c.in-Err.is at c.requires in widened told
 
-pub returns-in-Refused : goal.returns-in-Refused
-returns-in-Refused c = rw c.in-Refused.is c.refuse.ensures
+pub returns-in-Ok : goal.returns-in-Ok
+returns-in-Ok c =
+    rw c.in-Ok.is (rw (kept c.from.ensures c.from.type_inv) at c.fine.ensures)
 
-pub returns-in-Changed : goal.returns-in-Changed
-returns-in-Changed c =
-    rw c.in-Changed.is (rw (to_z_pos w64 c.in-Changed.count (omega arith)) at c.fill.ensures)
+pub returns-in-Err : goal.returns-in-Err
+returns-in-Err c = rw c.in-Err.is c.refuse.ensures

@@ -2,25 +2,22 @@
 use mir.Syntax.{w64}
 use mir.ValLaws.{to_z_pos}
 use Rattle.eight.proofs.Counts.{counts_fit}
+use Rattle.eight.proofs.Numbers.{widened}
 use Rattle.eight.proofs.show_page.Goals as goal
 
 pub refuse-requires : goal.refuse-requires
-refuse-requires c = rw c.in-Refused.is at c.requires
+refuse-requires c = let told = rw c.in-Err.is at c.requires in widened told
 
-pub overflow_cast-written : goal.overflow_cast-written
-overflow_cast-written c =
-    let few = counts_fit c.requires c.in-Rows.is in
-    record { sfits = search (few.0, few.1) }
+pub overflow_cast-o : goal.overflow_cast-o
+overflow_cast-o c = let few = counts_fit c.requires c.in-Ok.is in record { sfits = few.0 }
 
-pub overflow_cast-left : goal.overflow_cast-left
-overflow_cast-left c =
-    let few = counts_fit c.requires c.in-Rows.is in
-    record { sfits = search (few.0, few.1) }
+pub overflow_cast-o-in-Ok : goal.overflow_cast-o-in-Ok
+overflow_cast-o-in-Ok c = let few = counts_fit c.requires c.in-Ok.is in record { sfits = few.1 }
 
-pub returns-in-Refused : goal.returns-in-Refused
-returns-in-Refused c = rw c.in-Refused.is c.refuse.ensures
+pub returns-in-Ok : goal.returns-in-Ok
+returns-in-Ok c =
+    let few = counts_fit c.requires c.in-Ok.is in
+    rw c.in-Ok.is (rw (to_z_pos w64 _ few.0, to_z_pos w64 _ few.1) at c.fine.ensures)
 
-pub returns-in-Rows : goal.returns-in-Rows
-returns-in-Rows c =
-    let few = counts_fit c.requires c.in-Rows.is in
-    rw c.in-Rows.is (rw (to_z_pos w64 _ few.0, to_z_pos w64 _ few.1) at c.fill.ensures)
+pub returns-in-Err : goal.returns-in-Err
+returns-in-Err c = rw c.in-Err.is c.refuse.ensures

@@ -1,15 +1,14 @@
--- `show_row` shows a refusal's number and row, or no fields.
+-- `show_row` shows a refusal with no ring, or no fields.
 use native.Mathlib.Omega.{arith}
 use Rattle.eight.proofs.show_row.Goals as goal
 
-pub fill-requires : goal.fill-requires
-fill-requires c =
-    let pre = c.requires in
-    let low = rw c.in-Refused.is at pre in
-    record { low = omega (arith, low); few = omega arith }
+pub refuse-requires : goal.refuse-requires
+refuse-requires c =
+    let low = rw c.in-Err.is at c.requires in
+    rw c.from.ensures (record { low = omega (arith, low); few = omega arith })
 
-pub returns-in-Refused : goal.returns-in-Refused
-returns-in-Refused c = rw c.in-Refused.is c.fill.ensures
+pub returns-in-Ok : goal.returns-in-Ok
+returns-in-Ok c = rw c.in-Ok.is c.fine.ensures
 
-pub returns-in-Written : goal.returns-in-Written
-returns-in-Written c = rw c.in-Written.is c.fill-in-Written.ensures
+pub returns-in-Err : goal.returns-in-Err
+returns-in-Err c = rw c.in-Err.is (rw c.from.ensures at c.refuse.ensures)
