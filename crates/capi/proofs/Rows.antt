@@ -7,53 +7,33 @@ use mathlib.Core.List.{List}
 use native.Mathlib.Omega.{arith}
 use lib.IntN.{ℤ}
 use lib.ListN.{length}
+use Rattle.std.specs.Prelude.{Ok, Err}
 use Rattle.table.specs.Header.{nodes_of}
 use Rattle.table.specs.Refuse.{Unless, FirstBad}
 use Rattle.tree.specs.Accept.{Begins}
-use Rattle.accept.specs.Accept.{GivesNet, AcceptOf, accept_refusal}
-use Rattle.accept.specs.declared.AcceptAnswer.{AcceptAnswer}
-use Rattle.accept.specs.declared.AcceptAnswer.TheVariants as accept
+use Rattle.accept.specs.Accept.{GivesNet, AcceptOf, accept_refusal, AcceptAnswer}
 use Rattle.table.proofs.Refusals.{by_unless, by_rows}
 use Rattle.tree.proofs.Begins.{Told, begins_map, by_beginning}
-use Rattle.spines.specs.Heads.{Heads, Headings, heads_refusal}
-use Rattle.spines.specs.declared.HeadsAnswer.{HeadsAnswer}
-use Rattle.spines.specs.declared.HeadsAnswer.TheVariants as heads
-use Rattle.changes.specs.Change.{Done, Settles, change_refusal}
-use Rattle.changes.specs.declared.Change.{Change}
-use Rattle.changes.specs.declared.Change.TheVariants as change
+use Rattle.spines.specs.Heads.{Heads, Headings, heads_refusal, HeadsAnswer}
+use Rattle.changes.specs.Change.{Done, Settles, change_refusal, Change}
 use Rattle.changes.specs.Claim.{Claims}
-use Rattle.convert.specs.Convert.{GivesMarks, Converting, Converts, conversion_refusal}
-use Rattle.convert.specs.declared.Conversion.{Conversion}
-use Rattle.convert.specs.declared.Conversion.TheVariants as conversion
-use Rattle.pair.specs.Pair.{ShowsPath, PairOf, pair_refusal}
-use Rattle.pair.specs.declared.PairAnswer.{PairAnswer}
-use Rattle.pair.specs.declared.PairAnswer.TheVariants as pair
-use Rattle.heaviest.specs.Heaviest.{GivesHeaviest, HeaviestWithin, heaviest_refusal}
-use Rattle.heaviest.specs.declared.HeaviestAnswer.{HeaviestAnswer}
-use Rattle.heaviest.specs.declared.HeaviestAnswer.TheVariants as heaviest
+use Rattle.convert.specs.Convert.{GivesMarks, Converting, Converts, conversion_refusal, Conversion}
+use Rattle.pair.specs.Pair.{ShowsPath, PairOf, pair_refusal, PairAnswer}
+use Rattle.heaviest.specs.Heaviest.{GivesHeaviest, HeaviestWithin, heaviest_refusal, HeaviestAnswer}
 use Rattle.pages.specs.Passes.{Passes}
-use Rattle.paging.specs.Paging.{listing_refusal, GivesPage}
-use Rattle.paging.specs.declared.Listed.{Listed}
-use Rattle.paging.specs.declared.Listed.TheVariants as listed
+use Rattle.paging.specs.Paging.{listing_refusal, GivesPage, Listed}
 use Rattle.paging.proofs.Few.{paged_few}
 use Rattle.listing.specs.Listing.{ListingWithin}
-use Rattle.window.specs.Window.{Window, GivesMost, WindowOf, window_refusal}
+use Rattle.window.specs.Window.{Window, GivesMost, WindowOf, window_refusal, WindowAnswer}
 use Rattle.window.specs.List.{WindowListOf}
-use Rattle.window.specs.declared.WindowAnswer.{WindowAnswer}
-use Rattle.window.specs.declared.WindowAnswer.TheVariants as window
-use Rattle.vetting.specs.Vets.{Vets}
-use Rattle.vetting.specs.declared.Vetted.{Vetted}
-use Rattle.vetting.specs.declared.Vetted.TheVariants as vetted
+use Rattle.vetting.specs.Vets.{GivesVerdict, Vetted}
+use Rattle.vetting.specs.declared.Verdict.TheVariants.{Yes, Fault, Missing}
 use Rattle.vet.specs.Vet.{VetOf, vet_refusal}
-use Rattle.writer.specs.WriteRow.{WritesRow}
-use Rattle.writer.specs.declared.RowAnswer.{RowAnswer}
+use Rattle.writer.specs.WriteRow.{WritesRow, RowAnswer}
 use Rattle.mesh.specs.Table.{rows_of}
-use Rattle.mesh.specs.Answer.{mesh_refusal, MeshOf}
+use Rattle.mesh.specs.Answer.{mesh_refusal, MeshOf, MeshAnswer}
 use Rattle.mesh.specs.Answer as answer
-use Rattle.mesh.specs.declared.MeshAnswer.{MeshAnswer}
-use Rattle.mesh.specs.declared.MeshAnswer.TheVariants as mesh
-use Rattle.dimacs.specs.Read.{ReadOf}
-use Rattle.dimacs.specs.declared.ReadAnswer.{ReadAnswer}
+use Rattle.dimacs.specs.Read.{ReadOf, ReadAnswer}
 use Rattle.dimacs.specs.Write.{Wrote, WriteOf}
 use Rattle.dimacs.proofs.Cases.{by_reading, by_writing}
 use Rattle.eight.specs.work.Room.{
@@ -82,8 +62,8 @@ told : (k r g : ℕ) → Told k r g → Room r g
 told k r g t = record { low = t.low; few = omega (arith, t.low, t.few) }
 
 -- one of an operation's own, and then as the rest says
-own : {A : Type 0} (C : A → Type 0) {no : A} {Ok : Type 0} {rest : A → Type 0} → C no → ((x : A) → rest x → C x)
-    → (x : A) → Unless A no Ok rest x → C x
+own : {A : Type 0} (C : A → Type 0) {no : A} {Good : Type 0} {rest : A → Type 0} → C no → ((x : A) → rest x → C x)
+    → (x : A) → Unless A no Good rest x → C x
 own C n f x p = by_unless C n (λ _. f) p
 
 -- what comes after 1 to 11 knows that an accepted net has 4,096 nodes at the most
@@ -101,16 +81,16 @@ pub accept_low : (s : List ℕ) (x : AcceptAnswer) → AcceptOf s x → AcceptRo
 accept_low s x p = by_beginning AcceptRoom accept_refusal s told given p
   where
     given : (x : AcceptAnswer) → GivesNet s x → AcceptRoom x
-    given (accept.Accepted n b k) q = tt
-    given (accept.Refused why) q = absurd q
+    given (Ok _) q = tt
+    given (Err why) q = absurd q
 
 pub pair_low : (s marks : List ℕ) (a b : ℕ) (x : PairAnswer) → PairOf s marks a b x → PairRoom x
 pair_low s marks a b x p =
     by_beginning PairRoom pair_refusal s told (own PairRoom nowhere (own PairRoom nowhere (found _))) p
   where
     found : (n : ℕ) (x : PairAnswer) → ShowsPath s marks n a b x → PairRoom x
-    found n (pair.Found l w h) q = tt
-    found n (pair.Refused why) q = absurd q
+    found n (Ok _) q = tt
+    found n (Err why) q = absurd q
 
 pub heaviest_low : (none : ℕ) (Within : ℕ → Type 0) (s marks : List ℕ) (x : HeaviestAnswer)
     → HeaviestWithin none Within s marks x → HeaviestRoom x
@@ -119,8 +99,8 @@ heaviest_low none Within s marks x p =
     (own HeaviestRoom nowhere (own HeaviestRoom nowhere (found _))) p
   where
     found : (P : _) (x : HeaviestAnswer) → GivesHeaviest P x → HeaviestRoom x
-    found P (heaviest.Between a b l w) q = tt
-    found P (heaviest.Refused why) q = absurd q
+    found P (Ok _) q = tt
+    found P (Err why) q = absurd q
 
 pub window_low : (s marks : List ℕ) (w : Window) (x : WindowAnswer) → WindowOf s marks w x → WindowRoom x
 window_low s marks w x p =
@@ -128,8 +108,8 @@ window_low s marks w x p =
     (own WindowRoom nowhere (own WindowRoom nowhere (own WindowRoom nowhere (found _)))) p
   where
     found : (P : _) (x : WindowAnswer) → GivesMost P x → WindowRoom x
-    found P (window.Most a b c y) q = tt
-    found P (window.Refused why) q = absurd q
+    found P (Ok _) q = tt
+    found P (Err why) q = absurd q
 
 pub heads_low : (s before : List ℕ) (x : HeadsAnswer × List ℕ) → Headings s before x → HeadsRoom x.0
 heads_low s before x p =
@@ -137,15 +117,15 @@ heads_low s before x p =
     by_beginning C (heads_refusal before) s told (own C nowhere (written _)) p
   where
     written : (n : ℕ) (x : HeadsAnswer × List ℕ) → Heads s n x → HeadsRoom x.0
-    written n (heads.Written, list) q = tt
-    written n (heads.Refused why, list) q = absurd q
+    written n (Ok _, list) q = tt
+    written n (Err why, list) q = absurd q
 
 -- of a page the counts fit too, for its net has 4,096 nodes at the most
 page_low : (Value : ℕ → ℕ → ℕ → ℤ → Type 0) (Within : ℕ → Type 0) (Heavy : ℤ → Type 0) {n : ℕ} (low high : ℕ)
     (old : List ℕ) → n ≤ 4096 → (x : Listed × List ℕ) → GivesPage (Passes Value Within Heavy n) low high old x
     → PageRoom x.0
-page_low Value Within Heavy low high old few (listed.Rows written left, now) q = omega (arith, paged_few few q)
-page_low Value Within Heavy low high old few (listed.Refused why, now) q = absurd q
+page_low Value Within Heavy low high old few (Ok _, now) q = omega (arith, paged_few few q)
+page_low Value Within Heavy low high old few (Err why, now) q = absurd q
 
 pub listing_low :
     (Within : ℕ → Type 0) (s marks : List ℕ) (floor : ℤ) (low high : ℕ) (old : List ℕ) (x : Listed × List ℕ)
@@ -168,16 +148,16 @@ pub vet_low : (s marks : List ℕ) (floor : ℤ) (list : List ℕ) (x : Vetted) 
 vet_low s marks floor list x h p =
     by_beginning VetRoom vet_refusal s told (own VetRoom nowhere (own VetRoom nowhere (given _))) p
   where
-    given : (P : _) (x : Vetted) → Vets P list (length list / 16) x → VetRoom x
-    given P vetted.Yes q = tt
-    given P (vetted.Fault i) q = omega (arith, h, q.0)
-    given P (vetted.Missing a b) q = tt
-    given P (vetted.Refused why) q = absurd q
+    given : (P : _) (x : Vetted) → GivesVerdict P list (length list / 16) x → VetRoom x
+    given P (Ok Yes) q = tt
+    given P (Ok (Fault i)) q = omega (arith, h, q.0)
+    given P (Ok (Missing a b)) q = tt
+    given P (Err why) q = absurd q
 
 -- commit and abort
 changed : (P : ℕ → Type 0) (m : ℕ) (before : List ℕ) (x : Change × List ℕ) → Done P m before x → ChangeRoom x.0
-changed P m before (change.Changed k, after) q = tt
-changed P m before (change.Refused why, after) q = absurd q
+changed P m before (Ok k, after) q = tt
+changed P m before (Err why, after) q = absurd q
 
 pub settle_low : (m : ℕ) (s before : List ℕ) (run : ℕ) (x : Change × List ℕ) → Settles m s before run x
     → ChangeRoom x.0
@@ -197,8 +177,8 @@ pub convert_low : (s marks : List ℕ) (x : Conversion) → Converts s marks x �
 convert_low s marks x p = few_nodes ConversionRoom conversion_refusal s told after p
   where
     given : (x : Conversion) → GivesMarks marks x → ConversionRoom x
-    given conversion.Converted q = tt
-    given (conversion.Refused why) q = absurd q
+    given (Ok _) q = tt
+    given (Err why) q = absurd q
 
     after : nodes_of s ≤ 4096 → (x : Conversion) → Converting (nodes_of s) marks x → ConversionRoom x
     after few x =
@@ -245,8 +225,8 @@ mesh_low s x h p =
     by_row f y = by_rows MeshRoom (λ k r l _. record { low = omega (arith, h, l); few = omega arith }) f
 
     given : (u v : ℕ → ℕ) (k n : ℕ) (y : MeshAnswer) → answer.GivesLongest u v k n y → MeshRoom y
-    given u v k n (mesh.Most l a b) q = tt
-    given u v k n (mesh.Refused why) q = absurd q
+    given u v k n (Ok _) q = tt
+    given u v k n (Err why) q = absurd q
 
     after : (u v : ℕ → ℕ) (k n : ℕ) (y : MeshAnswer) → answer.MeshJoined u v k n y → MeshRoom y
     after u v k n = own C anywhere (own C anywhere (given u v k n))

@@ -4,24 +4,16 @@ use Prim.Native.Nat.{ℕ, ◌<◌}
 use mathlib.Core.List.{List}
 use lib.IntN.{ℤ}
 use lib.ListN.{length}
-use Rattle.accept.specs.Accept.{accept_refusal}
-use Rattle.accept.specs.declared.AcceptAnswer.{AcceptAnswer}
+use Rattle.vetting.specs.Vets.{Vetted}
+use Rattle.accept.specs.Accept.{accept_refusal, AcceptAnswer}
 use Rattle.table.proofs.Refusals.{by_unless}
-use Rattle.spines.specs.Heads.{heads_refusal}
-use Rattle.spines.specs.declared.HeadsAnswer.{HeadsAnswer}
-use Rattle.changes.specs.Change.{change_refusal}
-use Rattle.changes.specs.declared.Change.{Change}
-use Rattle.convert.specs.Convert.{conversion_refusal}
-use Rattle.convert.specs.declared.Conversion.{Conversion}
-use Rattle.pair.specs.Pair.{pair_refusal}
-use Rattle.pair.specs.declared.PairAnswer.{PairAnswer}
-use Rattle.heaviest.specs.Heaviest.{heaviest_refusal}
-use Rattle.heaviest.specs.declared.HeaviestAnswer.{HeaviestAnswer}
-use Rattle.paging.specs.Paging.{listing_refusal}
-use Rattle.paging.specs.declared.Listed.{Listed}
-use Rattle.window.specs.Window.{Window, window_refusal}
-use Rattle.window.specs.declared.WindowAnswer.{WindowAnswer}
-use Rattle.vetting.specs.declared.Vetted.{Vetted}
+use Rattle.spines.specs.Heads.{heads_refusal, HeadsAnswer}
+use Rattle.changes.specs.Change.{change_refusal, Change}
+use Rattle.convert.specs.Convert.{conversion_refusal, Conversion}
+use Rattle.pair.specs.Pair.{pair_refusal, PairAnswer}
+use Rattle.heaviest.specs.Heaviest.{heaviest_refusal, HeaviestAnswer}
+use Rattle.paging.specs.Paging.{listing_refusal, Listed}
+use Rattle.window.specs.Window.{Window, window_refusal, WindowAnswer}
 use Rattle.vet.specs.Vet.{vet_refusal}
 use Rattle.dimacs.specs.Write.{Wrote, write_refusal}
 use Rattle.changeset.proofs.Withs.{by_with}

@@ -8,12 +8,11 @@ use lib.IntN.{ℤ}
 use mir.Syntax.{w64}
 use mir.Val.{to_z, of_z, SFits}
 use mir.ValLaws.{to_z-of_z}
-use Rattle.paging.specs.declared.Listed.{Listed}
+use Rattle.vetting.specs.Vets.{Vetted}
+use Rattle.paging.specs.Paging.{Listed}
 use Rattle.listing.specs.Listing.{ListingWithin}
-use Rattle.window.specs.Window.{Window, window, WindowOf}
+use Rattle.window.specs.Window.{Window, window, WindowOf, WindowAnswer}
 use Rattle.window.specs.List.{WindowListOf}
-use Rattle.window.specs.declared.WindowAnswer.{WindowAnswer}
-use Rattle.vetting.specs.declared.Vetted.{Vetted}
 use Rattle.vet.specs.Vet.{VetOf}
 use Rattle.eight.specs.Call.{Call}
 use Rattle.eight.specs.Shown.{window_in_c, listing_in_c, vet_in_c}
