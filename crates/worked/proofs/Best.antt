@@ -1,6 +1,7 @@
 -- Heaviest, under any length test that computes: an outcome that passes the test is the one promised. The pair that it
 -- gives is held against every pair within the length test; the refusal for none finds none. Then the two length tests:
 -- at most B, and exactly B.
+use Rattle.std.specs.Prelude.{Ok, Err}
 use Prim.Native.Nat.{ℕ, ◌-◌, ◌≤◌}
 use mathlib.Core.Path.{◌≡◌}
 use mathlib.Core.Bool.{Bool, true, false}
@@ -13,9 +14,7 @@ use Rattle.table.specs.Header.{nodes_of}
 use Rattle.tree.specs.declared.Refusal.{Refusal}
 use Rattle.pages.specs.Listing.{Entry, entry}
 use Rattle.pages.proofs.Qualifying.{passes_map}
-use Rattle.heaviest.specs.Heaviest.{heaviest_refusal, PairsWithin, HeaviestWithin}
-use Rattle.heaviest.specs.declared.HeaviestAnswer.{HeaviestAnswer}
-use Rattle.heaviest.specs.declared.HeaviestAnswer.TheVariants.{Between, Refused}
+use Rattle.heaviest.specs.Heaviest.{heaviest_refusal, PairsWithin, HeaviestWithin, HeaviestAnswer, between}
 use Rattle.worked.proofs.Tests.{every, every_passed}
 use Rattle.worked.proofs.Accepted.{accepted?, begins}
 use Rattle.worked.proofs.Pairs.{ways?, Wanted, wanted?, is_wanted, all_pairs, all_wanted}
@@ -61,7 +60,7 @@ module _ (way : ℕ → ℕ → List ℕ) (s marks : List ℕ) (none : ℕ) {Wit
       ∷ wanted? s marks way test.short any run ∷ all_pairs s marks way test.short any (at_least? run) ∷ []
 
   is_found : (run : Entry) → T (every (found_tests run))
-      → HeaviestWithin none Within s marks (Between run.low run.high run.length run.weight)
+      → HeaviestWithin none Within s marks (between run.low run.high run.length run.weight)
   is_found run t =
       let p = every_passed (found_tests run) t in
       let ways = p.1.1.0 in
@@ -82,7 +81,7 @@ module _ (way : ℕ → ℕ → List ℕ) (s marks : List ℕ) (none : ℕ) {Wit
       accepted? s ∷ eqb (length marks) (nodes_of s - 1) ∷ ways? s marks way ∷ eqb why.number none ∷ eqb why.row 0
       ∷ eqb why.ring 0 ∷ all_pairs s marks way test.short any (λ e. false) ∷ []
 
-  is_none : (why : Refusal) → T (every (none_tests why)) → HeaviestWithin none Within s marks (Refused why)
+  is_none : (why : Refusal) → T (every (none_tests why)) → HeaviestWithin none Within s marks (Err why)
   is_none why t =
       let p = every_passed (none_tests why) t in
       let ways = p.1.1.0 in
@@ -97,15 +96,15 @@ module _ (way : ℕ → ℕ → List ℕ) (s marks : List ℕ) (none : ℕ) {Wit
       (λ e. all_wanted s marks way test.short any p.0 ways (λ e. false) q.1.1.1.0 e.0
       (fro e.0 e.1)))))
     where
-      turn : Refused why ≡ heaviest_refusal none 0 0 → HeaviestWithin none Within s marks (heaviest_refusal none 0 0)
-          → HeaviestWithin none Within s marks (Refused why)
+      turn : Err why ≡ heaviest_refusal none 0 0 → HeaviestWithin none Within s marks (heaviest_refusal none 0 0)
+          → HeaviestWithin none Within s marks (Err why)
       turn e h = rw e h
 
   unfoldable pub best? : HeaviestAnswer → Bool
-  best? (Between a b l w) = every (found_tests (entry a b l w))
-  best? (Refused why) = every (none_tests why)
+  best? (Ok o) = every (found_tests (entry o.low o.high o.length o.weight))
+  best? (Err why) = every (none_tests why)
 
   pub is_best : (o : HeaviestAnswer) → T (best? o) → HeaviestWithin none Within s marks o
   unfolding best?
-  is_best (Between a b l w) t = is_found (entry a b l w) t
-  is_best (Refused why) t = is_none why t
+  is_best (Ok o) t = is_found (entry o.low o.high o.length o.weight) t
+  is_best (Err why) t = is_none why t

@@ -1,5 +1,6 @@
 -- Claim: an outcome that passes the test is the one promised. The way between the two nodes is the path; so what is too
 -- long, what is free on it and what becomes held are read off it.
+use Rattle.std.specs.Prelude.{Ok, Err}
 use Prim.Native.Nat.{ℕ, ◌-◌, ◌<◌}
 use mathlib.Core.Path.{◌≡◌, sym, ap, ◌∙◌}
 use mathlib.Core.Bool.{Bool, true, false, not, ◌&&◌, cond}
@@ -16,9 +17,7 @@ use Rattle.net.specs.Path.{Sum}
 use Rattle.net.specs.Net.{length_of}
 use Rattle.tree.specs.declared.Refusal.{Refusal}
 use Rattle.net.proofs.Labels.{both}
-use Rattle.changes.specs.Change.{change_refusal, Changes}
-use Rattle.changes.specs.declared.Change.{Change}
-use Rattle.changes.specs.declared.Change.TheVariants.{Changed, Refused}
+use Rattle.changes.specs.Change.{change_refusal, Changes, Change}
 use Rattle.changes.specs.Claim.{PathBetween, InReach, Taken, Ended, Claims}
 use Rattle.worked.proofs.Tests.{
   and,
@@ -148,12 +147,12 @@ module _ (way : ℕ → ℕ → List ℕ) (s before : List ℕ) (run a b : ℕ) 
           free_in : (r : ℕ) → at before r ≡ 0 → T (counted r) → T (has r (frees rs))
           free_in r f t = rw (cond_yes (eqb (at before r) 0) (has r (frees rs)) true (rw f (eqb_refl 0))) at t
 
-    pub is_claimed : T claimed? → Claims s before run a b (Changed k, after)
+    pub is_claimed : T claimed? → Claims s before run a b (Ok k, after)
     unfolding claimed?
     is_claimed t =
         let x = both (every path_tests) (every done_tests) t in
         let q = every_passed done_tests x.1 in
-        along x.0 (Changed k, after)
+        along x.0 (Ok k, after)
         (λ ok w. passed (record { rows = rs; path = path ok w; short = leb→le _ _ q.1.0 })
         (passed
         (at (frees rs) 0, taken_of ok w (at (frees rs) 0) q.1.1.1.1.1.1.1.1.0)
@@ -175,7 +174,7 @@ module _ (way : ℕ → ℕ → List ℕ) (s before : List ℕ) (run a b : ℕ) 
     unfoldable pub refused? : Bool
     refused? = every path_tests && (every refused_tests && refused_ended)
 
-    is_refusal : (k : ℕ) → T (every refused_tests) → why.number ≡ k → (Refused why, after) ≡ change_refusal before k 0 0
+    is_refusal : (k : ℕ) → T (every refused_tests) → why.number ≡ k → (Err why, after) ≡ change_refusal before k 0 0
     is_refusal k t n =
         let q = every_passed refused_tests t in
         let r : why.row ≡ 0 = eqb→eq _ _ q.0 in
@@ -184,16 +183,16 @@ module _ (way : ℕ → ℕ → List ℕ) (s before : List ℕ) (run a b : ℕ) 
         λ i. change_refusal (m i) (n i) (r i) (g i)
 
     refused_on : T (every refused_tests) → T refused_ended → T (accepted? s) → T (path? s a rs b)
-        → Ended s (nodes_of s) (bound_of s) before run a b (Refused why, after)
+        → Ended s (nodes_of s) (bound_of s) before run a b (Err why, after)
     refused_on l t ok w = pick (eqb why.number 18) (λ e. eqb→eq _ _ e) t
       where
-        turn : (x : Change × List ℕ) → (Refused why, after) ≡ x → Ended s (nodes_of s) (bound_of s) before run a b x
-            → Ended s (nodes_of s) (bound_of s) before run a b (Refused why, after)
+        turn : (x : Change × List ℕ) → (Err why, after) ≡ x → Ended s (nodes_of s) (bound_of s) before run a b x
+            → Ended s (nodes_of s) (bound_of s) before run a b (Err why, after)
         turn x e h = rw e h
 
         pick : (c : Bool) → (T c → why.number ≡ 18)
             → T (cond c (ltb (bound_of s) (Sum (length_of s) rs)) (every none_tests))
-            → Ended s (nodes_of s) (bound_of s) before run a b (Refused why, after)
+            → Ended s (nodes_of s) (bound_of s) before run a b (Err why, after)
         pick true n t =
             turn (change_refusal before 18 0 0) (is_refusal 18 l (n tt)) (refused (long ok w (ltb→lt _ _ t)))
         pick false n t =
@@ -205,9 +204,9 @@ module _ (way : ℕ → ℕ → List ℕ) (s before : List ℕ) (run a b : ℕ) 
             (throughout_in (λ r. not (eqb (at before r) 0)) rs q.1.1.0 f.0 (on_path ok w f.1))
             (rw f.1.free (eqb_refl 0)))))
 
-    pub is_refused : T refused? → Claims s before run a b (Refused why, after)
+    pub is_refused : T refused? → Claims s before run a b (Err why, after)
     unfolding refused?
     is_refused t =
         let x = both (every path_tests) (every refused_tests && refused_ended) t in
         let y = both (every refused_tests) refused_ended x.1 in
-        along x.0 (Refused why, after) (refused_on y.0 y.1)
+        along x.0 (Err why, after) (refused_on y.0 y.1)

@@ -1,4 +1,5 @@
 -- Heads and leaves: an outcome that passes the test is the one promised; a list that passes is that of the leaves.
+use Rattle.std.specs.Prelude.{Ok}
 use Prim.Native.Nat.{ℕ, ◌-◌, ◌<◌}
 use mathlib.Core.Path.{◌≡◌}
 use mathlib.Core.Logic.{◌⊎◌, inl, inr}
@@ -14,7 +15,6 @@ use Rattle.table.specs.Header.{nodes_of}
 use Rattle.net.specs.Net.{first_end, second_end}
 use Rattle.spines.specs.Spine.{ChildOf, Leaf}
 use Rattle.spines.specs.Heads.{HeadOf, heads_refusal, Headings}
-use Rattle.spines.specs.declared.HeadsAnswer.TheVariants.{Written}
 use Rattle.spines.specs.work.Parents.{Child}
 use Rattle.spines.proofs.Same.{same_leaf}
 use Rattle.spines.proofs.Net.{child_net, net_child}
@@ -48,7 +48,7 @@ module _ (up by : ℕ → ℕ) (s before list : List ℕ) where
   unfoldable pub heads? : Bool
   heads? = every tests
 
-  pub is_heads : T heads? → Headings s before (Written, list)
+  pub is_heads : T heads? → Headings s before (Ok tt, list)
   unfolding heads?
   is_heads t =
       let p = every_passed tests t in

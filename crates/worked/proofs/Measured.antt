@@ -20,8 +20,7 @@ use Rattle.spines.specs.Spine.{ChildOf}
 use Rattle.spines.specs.Heads.{HeadOf}
 use Rattle.spines.specs.Hops.{Touched}
 use Rattle.spines.proofs.Net.{net_head_only}
-use Rattle.pair.specs.Pair.{pair_refusal, PairOf}
-use Rattle.pair.specs.declared.PairAnswer.TheVariants.{Found}
+use Rattle.pair.specs.Pair.{pair_refusal, PairOf, found}
 use Rattle.worked.proofs.Tests.{
   every,
   every_passed,
@@ -113,7 +112,7 @@ module _ (way : ℕ → ℕ → List ℕ) (up by : ℕ → ℕ) (s marks : List 
   unfoldable pub pair? : Bool
   pair? = every tests
 
-  pub is_pair : T pair? → PairOf s marks a b (Found l w h)
+  pub is_pair : T pair? → PairOf s marks a b (found l w h)
   unfolding pair?
   is_pair t =
       let p = every_passed tests t in

@@ -17,8 +17,7 @@ use Rattle.pages.specs.Page.{Following}
 use Rattle.pages.proofs.Qualifying.{passes_map}
 use Rattle.pages.specs.Bytes.{rows}
 use Rattle.ground.specs.PathOf.{PathOf}
-use Rattle.paging.specs.Paging.{listing_refusal}
-use Rattle.paging.specs.declared.Listed.TheVariants.{Rows}
+use Rattle.paging.specs.Paging.{listing_refusal, listed}
 use Rattle.listing.specs.Listing.{ListingOf}
 use Rattle.worked.proofs.Tests.{
   either,
@@ -61,14 +60,14 @@ module _ (way : ℕ → ℕ → List ℕ) (s marks : List ℕ) (floor : ℤ) (lo
   given = take (length lent / 16) gathered
 
   -- it is found in the list, where it comes after the start
-  abbrev listed : Entry → Bool
-  listed e = not (after? low high e) || has_entry gathered e
+  abbrev reached : Entry → Bool
+  reached e = not (after? low high e) || has_entry gathered e
 
   abbrev tests : List Bool
   tests =
       accepted? s ∷ eqb (length marks) (nodes_of s - 1) ∷ ways? s marks way ∷ leb 16 (length lent) ∷ rising? gathered
       ∷ throughout (wanted? s marks way short (le_z floor)) gathered ∷ throughout (after? low high) gathered
-      ∷ all_pairs s marks way short (le_z floor) listed ∷ eqb written (length given)
+      ∷ all_pairs s marks way short (le_z floor) reached ∷ eqb written (length given)
       ∷ eqb (length given + left) (length gathered) ∷ same bytes (rows given ++ drop (16 * written) lent) ∷ []
 
   unfoldable pub listing? : Bool
@@ -83,7 +82,7 @@ module _ (way : ℕ → ℕ → List ℕ) (s marks : List ℕ) (floor : ℤ) (lo
   fro : (e : Entry) → Wants e → Wanted s marks way short (le_z floor) e
   fro e = passes_map (λ q. q) (λ l. le→leb _ _ l) (λ w. w.le)
 
-  pub is_listing : T listing? → ListingOf s marks floor low high lent (Rows written left, bytes)
+  pub is_listing : T listing? → ListingOf s marks floor low high lent (listed written left, bytes)
   unfolding listing?
   is_listing t =
       let p = every_passed tests t in
@@ -104,7 +103,7 @@ module _ (way : ℕ → ℕ → List ℕ) (s marks : List ℕ) (floor : ℤ) (lo
         bytes = same_is _ _ r.1.1.0;
       })))
     where
-      found : (e : Entry) → After low high e → T (listed e) → T (has_entry gathered e)
+      found : (e : Entry) → After low high e → T (reached e) → T (has_entry gathered e)
       found e a t = pick (either (not (after? low high e)) (has_entry gathered e) t)
         where
           pick : T (not (after? low high e)) ⊎ T (has_entry gathered e) → T (has_entry gathered e)
@@ -113,7 +112,7 @@ module _ (way : ℕ → ℕ → List ℕ) (s marks : List ℕ) (floor : ℤ) (lo
 
       all : T (accepted? s) → T (ways? s marks way) → T (rising? gathered)
           → T (throughout (wanted? s marks way short (le_z floor)) gathered) → T (throughout (after? low high) gathered)
-          → T (all_pairs s marks way short (le_z floor) listed) → Listing (Following Wants low high) gathered
+          → T (all_pairs s marks way short (le_z floor) reached) → Listing (Following Wants low high) gathered
       all ok w a b c d =
           record {
             rising = is_rising gathered a;
@@ -125,5 +124,5 @@ module _ (way : ℕ → ℕ → List ℕ) (s marks : List ℕ) (floor : ℤ) (lo
                   is_after low high e (throughout_in (after? low high) gathered c e i),
                 );
             complete = λ e f. has_entry_in gathered e
-                (found e f.1 (all_wanted s marks way short (le_z floor) ok w listed d e (fro e f.0)));
+                (found e f.1 (all_wanted s marks way short (le_z floor) ok w reached d e (fro e f.0)));
           }

@@ -1,5 +1,6 @@
 -- Acceptance that refuses by 11: an outcome that passes the test is the one promised. The rows before the row named
 -- make no ring, and the way between its ends goes along them alone; so its ring has that row and those of the way.
+use Rattle.std.specs.Prelude.{Err}
 use Prim.Native.Nat.{ℕ, ◌+◌, ◌-◌}
 use mathlib.Core.Path.{◌≡◌}
 use mathlib.Core.Bool.{Bool}
@@ -14,7 +15,6 @@ use Rattle.net.specs.Ring.{closed}
 use Rattle.tree.specs.declared.Refusal.{Refusal}
 use Rattle.tree.proofs.Eleven.{first_refused}
 use Rattle.accept.specs.Accept.{accept_refusal, AcceptOf}
-use Rattle.accept.specs.declared.AcceptAnswer.TheVariants.{Refused}
 use Rattle.accept.proofs.Theorems.{refused_as_acceptance}
 use Rattle.net.proofs.Labels.{both, grows, grows_forest}
 use Rattle.worked.proofs.Tests.{every, every_passed, throughout}
@@ -46,7 +46,7 @@ module _ (way : ℕ → ℕ → List ℕ) (s : List ℕ) (why : Refusal) where
   unfoldable pub ringed? : Bool
   ringed? = every tests
 
-  pub is_ringed : T ringed? → AcceptOf s (Refused why)
+  pub is_ringed : T ringed? → AcceptOf s (Err why)
   unfolding ringed?
   is_ringed t =
       let p = every_passed tests t in
@@ -59,6 +59,6 @@ module _ (way : ℕ → ℕ → List ℕ) (s : List ℕ) (why : Refusal) where
       (grows_forest (first_end s) (second_end s) r p.1.1.0)
       (closed rs (met s (first_end s r) rs, earlier r q.0 w.0, w.1) g) (λ e. omega (arith, e, g))))
     where
-      turn : Refused why ≡ accept_refusal 11 r why.ring → AcceptOf s (accept_refusal 11 r why.ring)
-          → AcceptOf s (Refused why)
+      turn : Err why ≡ accept_refusal 11 r why.ring → AcceptOf s (accept_refusal 11 r why.ring)
+          → AcceptOf s (Err why)
       turn e h = rw e h

@@ -1,6 +1,7 @@
 -- The claim: all starred cases of document 01, those of Req 01 and Req 03, and of ours three for Req 05 and two for
 -- Req 08, hold of the definitions. Each operation has a test that computes and a law that what passes it holds; the
 -- list is then a computation. Req 08's two have names too, by which they are cited.
+use Rattle.std.specs.Prelude.{Ok, Err}
 use Prim.Native.Nat.{ℕ, zero, suc}
 use mathlib.Core.Bool.{Bool, true, false, ◌&&◌}
 use mathlib.Core.List.{List, [], ◌∷◌}
@@ -19,13 +20,7 @@ use Rattle.spines.proofs.Head.{head_some}
 use Rattle.marks.specs.Weighs.{weighs, weight_under}
 use Rattle.numbers.specs.Bytes.{bytes}
 use Rattle.pages.specs.Bytes.{row, rows}
-use Rattle.accept.specs.declared.AcceptAnswer.TheVariants as acceptance
-use Rattle.spines.specs.declared.HeadsAnswer.TheVariants as written
-use Rattle.changes.specs.declared.Change.TheVariants as change
-use Rattle.heaviest.specs.Heaviest.{heaviest_refusal, HeaviestExactOf}
-use Rattle.heaviest.specs.declared.HeaviestAnswer.TheVariants.{Between}
-use Rattle.paging.specs.declared.Listed.TheVariants as listed
-use Rattle.pair.specs.declared.PairAnswer.TheVariants as path
+use Rattle.heaviest.specs.Heaviest.{heaviest_refusal, HeaviestExactOf, between}
 use Rattle.worked.specs.Case.{Case, accept, heaviest, exact, listing, heads, leaves, pair, claim, Holds, All}
 use Rattle.worked.specs.Cases.{net5, n5, cells5, net2, unmarked, held, marked, crossed, lent, three, cases}
 use Rattle.worked.proofs.Tests.{every, below, has, throughout, no_repeat, same}
@@ -63,37 +58,37 @@ by x = get_or (0 ∷ 0 ∷ 1 ∷ 2 ∷ 3 ∷ []) x 0
 
 -- the test of a case, by its operation
 unfoldable check : Case → Bool
-check (accept s (acceptance.Accepted n b k)) = false
-check (accept s (acceptance.Refused why)) = ringed? way s why
+check (accept s (Ok o)) = false
+check (accept s (Err why)) = ringed? way s why
 check (heaviest s marks o) = best? way s marks 16 (at_most (bound_of s)) o
 check (exact s marks o) = best? way s marks 21 (exactly (bound_of s)) o
-check (listing s marks floor low high lent (listed.Rows k l, after)) =
-    listing? way s marks floor low high lent k l after
-check (listing s marks floor low high lent (listed.Refused why, after)) = false
-check (heads s lent (written.Written, after)) = heads? up by s lent after
-check (heads s lent (written.Refused why, after)) = false
+check (listing s marks floor low high lent (Ok o, after)) =
+    listing? way s marks floor low high lent o.written o.left after
+check (listing s marks floor low high lent (Err why, after)) = false
+check (heads s lent (Ok done, after)) = heads? up by s lent after
+check (heads s lent (Err why, after)) = false
 check (leaves s nodes) = leaves? up by s nodes
-check (pair s marks a b (path.Found l w h)) = pair? way up by s marks a b l h w
-check (pair s marks a b (path.Refused why)) = false
-check (claim s marks run a b (change.Changed k, after)) = claimed? way s marks run a b k after
-check (claim s marks run a b (change.Refused why, after)) = refused? way s marks run a b why after
+check (pair s marks a b (Ok o)) = pair? way up by s marks a b o.length o.hops o.weight
+check (pair s marks a b (Err why)) = false
+check (claim s marks run a b (Ok k, after)) = claimed? way s marks run a b k after
+check (claim s marks run a b (Err why, after)) = refused? way s marks run a b why after
 
 check_holds : (c : Case) → T (check c) → Holds c
 unfolding check
-check_holds (accept s (acceptance.Accepted n b k)) t = absurd t
-check_holds (accept s (acceptance.Refused why)) t = is_ringed way s why t
+check_holds (accept s (Ok o)) t = absurd t
+check_holds (accept s (Err why)) t = is_ringed way s why t
 check_holds (heaviest s marks o) t = is_best way s marks 16 (at_most (bound_of s)) o t
 check_holds (exact s marks o) t = is_best way s marks 21 (exactly (bound_of s)) o t
-check_holds (listing s marks floor low high lent (listed.Rows k l, after)) t =
-    is_listing way s marks floor low high lent k l after t
-check_holds (listing s marks floor low high lent (listed.Refused why, after)) t = absurd t
-check_holds (heads s lent (written.Written, after)) t = is_heads up by s lent after t
-check_holds (heads s lent (written.Refused why, after)) t = absurd t
+check_holds (listing s marks floor low high lent (Ok o, after)) t =
+    is_listing way s marks floor low high lent o.written o.left after t
+check_holds (listing s marks floor low high lent (Err why, after)) t = absurd t
+check_holds (heads s lent (Ok done, after)) t = is_heads up by s lent after t
+check_holds (heads s lent (Err why, after)) t = absurd t
 check_holds (leaves s nodes) t = are_leaves up by s nodes t
-check_holds (pair s marks a b (path.Found l w h)) t = is_pair way up by s marks a b l h w t
-check_holds (pair s marks a b (path.Refused why)) t = absurd t
-check_holds (claim s marks run a b (change.Changed k, after)) t = is_claimed way s marks run a b k after t
-check_holds (claim s marks run a b (change.Refused why, after)) t = is_refused way s marks run a b why after t
+check_holds (pair s marks a b (Ok o)) t = is_pair way up by s marks a b o.length o.hops o.weight t
+check_holds (pair s marks a b (Err why)) t = absurd t
+check_holds (claim s marks run a b (Ok k, after)) t = is_claimed way s marks run a b k after t
+check_holds (claim s marks run a b (Err why, after)) t = is_refused way s marks run a b why after t
 
 unfoldable check_all : List Case → Bool
 check_all [] = true
@@ -123,7 +118,7 @@ from (suc k) [] h = tt
 from (suc k) (c ∷ l) h = from k l h.1
 
 -- In the exact mode a larger B can lose a run: of two nodes with a branch of length 0, B 0 finds it
-pub exact_found : HeaviestExactOf (net2 0) (0 ∷ []) (Between 0 1 0 (pos 0))
+pub exact_found : HeaviestExactOf (net2 0) (0 ∷ []) (between 0 1 0 (pos 0))
 unfolding cases
 exact_found = (from 20 cases cases_hold).0
 

@@ -1,21 +1,17 @@
 -- A worked case: an operation's inputs, lent memory among them, and the answer that the documents give for them, with
 -- the lent memory afterwards. It holds where these are as the operation's own promise says.
+use Rattle.paging.specs.Paging.{Listed}
+use Rattle.changes.specs.Change.{Change}
 use Rattle.std.specs.Prelude.{ℕ, ◌-◌, List, [], ◌∷◌, ℤ}
 use Rattle.table.specs.Header.{nodes_of}
 use Rattle.arrays.specs.Members.{In}
 use Rattle.net.specs.Net.{first_end, second_end}
-use Rattle.accept.specs.Accept.{AcceptOf}
-use Rattle.accept.specs.declared.AcceptAnswer.{AcceptAnswer}
+use Rattle.accept.specs.Accept.{AcceptOf, AcceptAnswer}
 use Rattle.spines.specs.Spine.{ChildOf, Leaf}
-use Rattle.spines.specs.Heads.{Headings}
-use Rattle.spines.specs.declared.HeadsAnswer.{HeadsAnswer}
-use Rattle.changes.specs.declared.Change.{Change}
+use Rattle.spines.specs.Heads.{Headings, HeadsAnswer}
 use Rattle.changes.specs.Claim.{Claims}
-use Rattle.heaviest.specs.Heaviest.{HeaviestOf, HeaviestExactOf}
-use Rattle.heaviest.specs.declared.HeaviestAnswer.{HeaviestAnswer}
-use Rattle.pair.specs.Pair.{PairOf}
-use Rattle.pair.specs.declared.PairAnswer.{PairAnswer}
-use Rattle.paging.specs.declared.Listed.{Listed}
+use Rattle.heaviest.specs.Heaviest.{HeaviestOf, HeaviestExactOf, HeaviestAnswer}
+use Rattle.pair.specs.Pair.{PairOf, PairAnswer}
 use Rattle.listing.specs.Listing.{ListingOf}
 
 -- the table's net has these leaves and no others

@@ -1,15 +1,12 @@
 -- The starred cases of document 01 and those that document 02, Req 01 and Req 03, gives: the small net N5 under several
 -- bounds, and with a row repeated; what is asked of it, and the answers. Then, for Req 05, a net of its shape in
 -- version 2; and for Req 08 the smallest net with a run, where in the exact mode a larger B loses it.
-use Rattle.std.specs.Prelude.{ℕ, List, [], ◌∷◌, ◌++◌, pos, negsuc}
+use Rattle.pair.specs.Pair.{found}
+use Rattle.paging.specs.Paging.{listed}
+use Rattle.std.specs.Prelude.{ℕ, List, [], ◌∷◌, ◌++◌, pos, negsuc, Ok}
 use Rattle.accept.specs.Accept.{accept_refusal}
-use Rattle.spines.specs.declared.HeadsAnswer.TheVariants.{Written}
 use Rattle.changes.specs.Change.{change_refusal}
-use Rattle.changes.specs.declared.Change.TheVariants.{Changed}
-use Rattle.heaviest.specs.Heaviest.{heaviest_refusal}
-use Rattle.heaviest.specs.declared.HeaviestAnswer.TheVariants.{Between}
-use Rattle.paging.specs.declared.Listed.TheVariants.{Rows}
-use Rattle.pair.specs.declared.PairAnswer.TheVariants.{Found}
+use Rattle.heaviest.specs.Heaviest.{heaviest_refusal, between}
 use Rattle.worked.specs.Case.{Case, accept, heaviest, exact, listing, heads, leaves, pair, claim}
 
 -- a table: R T N, version 1, 5 nodes, reserved, bound B (below 256); then the rows
@@ -70,27 +67,27 @@ three =
 
 unfoldable pub cases : List Case
 cases =
-    heaviest (n5 9) unmarked (Between 2 3 9 (pos 9))
-    ∷ heaviest (n5 8) unmarked (Between 1 3 6 (pos 7))
-    ∷ heaviest (n5 10) unmarked (Between 0 3 10 (pos 12))
-    ∷ heaviest (n5 2) unmarked (Between 3 4 2 (negsuc 2))
+    heaviest (n5 9) unmarked (between 2 3 9 (pos 9))
+    ∷ heaviest (n5 8) unmarked (between 1 3 6 (pos 7))
+    ∷ heaviest (n5 10) unmarked (between 0 3 10 (pos 12))
+    ∷ heaviest (n5 2) unmarked (between 3 4 2 (negsuc 2))
     ∷ heaviest (n5 1) unmarked (heaviest_refusal 16 0 0)
     ∷ listing (n5 9) unmarked (pos 7) 0 0 (lent ++ lent ++ lent ++ lent)
-    (Rows 3 0, three ++ lent)
-    ∷ listing (n5 9) unmarked (pos 10) 0 0 lent (Rows 0 0, lent)
-    ∷ heads (n5 9) (9 ∷ 9 ∷ 9 ∷ 9 ∷ 9 ∷ []) (Written, 0 ∷ 0 ∷ 0 ∷ 3 ∷ 3 ∷ [])
+    (listed 3 0, three ++ lent)
+    ∷ listing (n5 9) unmarked (pos 10) 0 0 lent (listed 0 0, lent)
+    ∷ heads (n5 9) (9 ∷ 9 ∷ 9 ∷ 9 ∷ 9 ∷ []) (Ok tt, 0 ∷ 0 ∷ 0 ∷ 3 ∷ 3 ∷ [])
     ∷ leaves (n5 9) (2 ∷ 4 ∷ [])
-    ∷ pair (n5 9) unmarked 2 4 (Found 11 (pos 6) 2)
-    ∷ claim (n5 9) unmarked 7 2 3 (Changed 2, held)
-    ∷ heaviest (n5 9) held (Between 0 1 4 (pos 5))
+    ∷ pair (n5 9) unmarked 2 4 (found 11 (pos 6) 2)
+    ∷ claim (n5 9) unmarked 7 2 3 (Ok 2, held)
+    ∷ heaviest (n5 9) held (between 0 1 4 (pos 5))
     ∷ claim (n5 9) held 8 1 3 (change_refusal held 19 0 0)
     ∷ claim (n5 9) unmarked 7 0 3 (change_refusal unmarked 18 0 0)
     ∷ claim (n5 9) marked 7 0 3 (change_refusal marked 18 0 0)
-    ∷ heaviest (n5 2) crossed (Between 3 4 2 (negsuc 2))
+    ∷ heaviest (n5 2) crossed (between 3 4 2 (negsuc 2))
     ∷ accept (net5 0 1 8) (accept_refusal 11 1 2)
-    ∷ heaviest (cells5 9) unmarked (Between 2 3 9 (pos 9))
-    ∷ heaviest (cells5 2) unmarked (Between 3 4 2 (negsuc 49))
-    ∷ pair (cells5 9) unmarked 2 4 (Found 11 (negsuc 40) 2)
-    ∷ exact (net2 0) (0 ∷ []) (Between 0 1 0 (pos 0))
+    ∷ heaviest (cells5 9) unmarked (between 2 3 9 (pos 9))
+    ∷ heaviest (cells5 2) unmarked (between 3 4 2 (negsuc 49))
+    ∷ pair (cells5 9) unmarked 2 4 (found 11 (negsuc 40) 2)
+    ∷ exact (net2 0) (0 ∷ []) (between 0 1 0 (pos 0))
     ∷ exact (net2 1) (0 ∷ []) (heaviest_refusal 21 0 0)
     ∷ []
