@@ -72,8 +72,8 @@ fn chains(s: &[u8], rows: usize, first: &mut [u16; 4096], next: &mut [u16; 8192]
     ensures { Chained (first_end s.now) (second_end s.now) rows (2 * rows)
         first.new next.new }
 {
-    arrays::fill(first, 0);
-    arrays::fill_wide(next, 0);
+    first.fill(0);
+    next.fill(0);
     let end = 2 * rows;
     for h in 0..end {
         let v = leaves(s, h);
@@ -101,9 +101,9 @@ fn visit(
     ensures { Placed (Outer (at order.old 0) (first_end s.now)
         (second_end s.now) rows (head + 1) result parent.new half.new order.new) }
 {
-    let p = arrays::wide(order[head]);
+    let p = usize::from(order[head]);
     let mut m = tail;
-    let mut x = arrays::wide(first[p]);
+    let mut x = usize::from(first[p]);
     while x > 0 {
         let h = x - 1;
         let c = leads(s, h);
@@ -113,7 +113,7 @@ fn visit(
             order[m] = c as u16;
             m += 1;
         }
-        x = arrays::wide(next[h]);
+        x = usize::from(next[h]);
     }
     m
 }
@@ -136,9 +136,9 @@ fn reach(
     ensures { Placed (WalkedFrom start (first_end s.now) (second_end s.now) rows result
         parent.new half.new order.new) }
 {
-    arrays::fill(parent, 4096);
-    arrays::fill(half, 0);
-    arrays::fill(order, 0);
+    parent.fill(4096);
+    half.fill(0);
+    order.fill(0);
     parent[start] = start as u16;
     order[0] = start as u16;
     let mut head: usize = 0;
@@ -155,9 +155,9 @@ fn places(order: &[u16; 4096], n: usize, place: &mut [u16; 4096])
     requires { Once n order.now }
     ensures { Places n order.now place.new }
 {
-    arrays::fill(place, 0);
+    place.fill(0);
     for i in 0..n {
-        let x = arrays::wide(order[i]);
+        let x = usize::from(order[i]);
         place[x] = i as u16;
     }
 }

@@ -57,7 +57,7 @@ pub fn first_ring(s: &[u8], rows: usize, up: &mut [u16; 4096], rank: &mut [u16; 
     ensures { FirstRing (first_end s.now) (second_end s.now) rows result }
 {
     number(up);
-    arrays::fill(rank, 0);
+    rank.fill(0);
     for r in 0..rows {
         let p = find(up, rank, first_end(s, r));
         let q = find(up, rank, second_end(s, r));

@@ -1,6 +1,7 @@
 use Prim.Native.Nat.{◌<◌}
-use mathlib.Core.Path.{refl}
+use mathlib.Core.Path.{refl, ◌∙◌}
 use native.Mathlib.Omega.{arith}
+use Rattle.arrays.proofs.Fills.{filled_by}
 use Rattle.reach.proofs.Chained.{from_fits, chained_none, chained_more, chained_all}
 use Rattle.reach.proofs.chains.Goals.{After-leaves-v}
 use Rattle.reach.proofs.chains.Goals as goal
@@ -10,9 +11,9 @@ node_in c = rw c.leaves-v.ensures (from_fits _ _ _ c.loop-h.invariant.1.fit (ome
 
 pub loop-h-init : goal.loop-h-init
 loop-h-init c =
-    let fill-ensures = c.fill.ensures in
+    let zero = filled_by {m = 4096} {v = 0} c.told-first c.fill.ensures.after in
     let pre = c.requires in
-    (chained_none _ _ _ _ _ fill-ensures.long c.fill_wide.ensures.long fill-ensures.each, pre, refl)
+    (chained_none _ _ _ _ _ zero.long (c.fill-2.ensures.len ∙ c.told-next) zero.each, pre, refl)
 
 pub leaves-v-requires : goal.leaves-v-requires
 leaves-v-requires c = c.loop-h.invariant.1.stands _ (omega arith)

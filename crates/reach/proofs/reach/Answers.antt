@@ -1,7 +1,7 @@
 use Prim.Native.Nat.{◌<◌}
 use native.Mathlib.Omega.{arith}
 use lib.ListN.{replicate}
-use Rattle.arrays.proofs.Fills.{filled}
+use Rattle.arrays.proofs.Fills.{filled, filled_by}
 use Rattle.reach.proofs.Queue.{queue_one}
 use Rattle.reach.proofs.Walked.{walked}
 use Rattle.reach.proofs.reach.Goals.{After-fill-3}
@@ -10,15 +10,6 @@ use Rattle.reach.proofs.reach.Goals as goal
 start_in : (c : After-fill-3)
     → c.args.start < 4096
 start_in c = c.requires.0
-
-pub fill-requires : goal.fill-requires
-fill-requires c = tt
-
-pub fill-requires-2 : goal.fill-requires-2
-fill-requires-2 c = tt
-
-pub fill-requires-3 : goal.fill-requires-3
-fill-requires-3 c = tt
 
 pub overflow_cast-parent : goal.overflow_cast-parent
 overflow_cast-parent c = omega (arith, start_in c)
@@ -34,12 +25,12 @@ overflow_cast-order c = omega (arith, start_in (goal.at.overflow_cast-order c).A
 
 pub loop-head-init : goal.loop-head-init
 loop-head-init c =
-    let fill2-ensures = c.fill-2.ensures in
-    let fill-ensures = c.fill.ensures in
     let pre = c.requires in (
       record {
         place = replicate 4096 0;
-        holds = queue_one _ _ _ _ _ _ _ _ pre.0 fill-ensures fill2-ensures c.fill-3.ensures (filled 4096 0);
+        holds = queue_one _ _ _ _ _ _ _ _ pre.0 (filled_by c.told-parent c.fill.ensures.after)
+            (filled_by c.told-half c.fill-2.ensures.after) (filled_by c.told-order c.fill-3.ensures.after)
+            (filled 4096 0);
       },
       pre.0,
       pre.1,

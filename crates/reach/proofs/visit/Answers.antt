@@ -13,7 +13,7 @@ node_in c =
 pub bounds-first-p : goal.bounds-first-p
 bounds-first-p c =
     let pre = c.requires in
-    rw c.wide-p.ensures.0 (pre.outer.holds.queue.within _ pre.ahead)
+    rw c.from-p.ensures (pre.outer.holds.queue.within _ pre.ahead)
 
 pub loop-x-init : goal.loop-x-init
 loop-x-init c =
@@ -21,7 +21,7 @@ loop-x-init c =
       record {
         place = t.outer.place;
         holds = going_start _ _ _ _ _ _ _ _ _ _ _ _ _ t.chains t.ahead t.outer.holds
-            c.wide-p.ensures.0 c.wide-x.ensures.0;
+            c.from-p.ensures c.from-x.ensures;
       },
       t.readable,
     )
@@ -72,7 +72,7 @@ loop-x-smaller c =
     let g = c.loop-x.invariant.0.holds in
     omega (
       arith,
-      c.wide-x-in-loop-x.ensures.0,
+      c.from-x-in-loop-x.ensures,
       (g.chains.nexts (loop-x - 1)
           (omega (arith, g.low, loop-test-taken))).below,
     )
@@ -90,14 +90,14 @@ loop-x-preserved c =
               place = _;
               holds = going_push _ _ _ _ _ _ _ _ _ _ _ _ _ g z _ _ e
                   (node_in (goal.at.loop-x-preserved c).After-leads-c)
-                  w.if-parent-c-eq4096.true c.wide-x-in-loop-x.ensures.0;
+                  w.if-parent-c-eq4096.true c.from-x-in-loop-x.ensures;
             })
         | else-parent-c-eq4096 w ↦
             rw (w.parent-is, w.half-is, w.order-is, w.m-is)
             (record {
               place = _;
               holds = going_keep _ _ _ _ _ _ _ _ _ _ _ _ _ g z _ _ e w.if-parent-c-eq4096.false
-                  c.wide-x-in-loop-x.ensures.0;
+                  c.from-x-in-loop-x.ensures;
             })
       ],
       loop-inv.1,

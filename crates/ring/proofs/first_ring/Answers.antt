@@ -1,5 +1,6 @@
 use mathlib.Core.Path.{◌≡◌}
 use native.Mathlib.Omega.{arith}
+use Rattle.arrays.proofs.Fills.{filled_by}
 use Rattle.ring.proofs.Union.{seen_none, seen_more, seen_ring, rises_more}
 use Rattle.ring.proofs.first_ring.Goals.{After-loop-r}
 use Rattle.ring.proofs.first_ring.Goals as goal
@@ -11,11 +12,8 @@ e c = omega arith
 pub loop-r-init : goal.loop-r-init
 loop-r-init c =
     let number-ensures = c.number.ensures in
-    let pre = c.requires in (
-      seen_none _ _ _ _ _ number-ensures.long c.fill.ensures.long number-ensures.each
-          c.fill.ensures.each,
-      pre,
-    )
+    let zero = filled_by {m = 4096} {v = 0} c.told-rank c.fill.ensures.after in
+    (seen_none _ _ _ _ _ number-ensures.long zero.long number-ensures.each zero.each, c.requires)
 
 pub first_end-requires : goal.first_end-requires
 first_end-requires c = c.loop-r.invariant.1.stands _ c.loop-r-test.true
