@@ -136,7 +136,8 @@ fn reach(
     ensures { Placed (WalkedFrom start (first_end s.now) (second_end s.now) rows result
         parent.new half.new order.new) }
 {
-    parent.fill(4096);
+    // 4096 is no parent.
+    *parent = [4096; 4096];
     half.fill(0);
     order.fill(0);
     parent[start] = start as u16;

@@ -4,10 +4,10 @@ use lib.ListN.{replicate}
 use Rattle.arrays.proofs.Fills.{filled, filled_by}
 use Rattle.reach.proofs.Queue.{queue_one}
 use Rattle.reach.proofs.Walked.{walked}
-use Rattle.reach.proofs.reach.Goals.{After-fill-3}
+use Rattle.reach.proofs.reach.Goals.{After-fill-2}
 use Rattle.reach.proofs.reach.Goals as goal
 
-start_in : (c : After-fill-3)
+start_in : (c : After-fill-2)
     → c.args.start < 4096
 start_in c = c.requires.0
 
@@ -15,21 +15,21 @@ pub overflow_cast-parent : goal.overflow_cast-parent
 overflow_cast-parent c = omega (arith, start_in c)
 
 pub bounds-parent-start : goal.bounds-parent-start
-bounds-parent-start c = omega (arith, start_in (goal.at.bounds-parent-start c).After-fill-3)
+bounds-parent-start c = omega (arith, start_in (goal.at.bounds-parent-start c).After-fill-2)
 
 pub offset_bounds-parent-start : goal.offset_bounds-parent-start
 offset_bounds-parent-start c = omega (arith, start_in c)
 
 pub overflow_cast-order : goal.overflow_cast-order
-overflow_cast-order c = omega (arith, start_in (goal.at.overflow_cast-order c).After-fill-3)
+overflow_cast-order c = omega (arith, start_in (goal.at.overflow_cast-order c).After-fill-2)
 
 pub loop-head-init : goal.loop-head-init
 loop-head-init c =
     let pre = c.requires in (
       record {
         place = replicate 4096 0;
-        holds = queue_one _ _ _ _ _ _ _ _ pre.0 (filled_by c.told-parent c.fill.ensures.after)
-            (filled_by c.told-half c.fill-2.ensures.after) (filled_by c.told-order c.fill-3.ensures.after)
+        holds = queue_one _ _ _ _ _ _ _ _ pre.0 (filled 4096 4096)
+            (filled_by c.told-half c.fill.ensures.after) (filled_by c.told-order c.fill-2.ensures.after)
             (filled 4096 0);
       },
       pre.0,
