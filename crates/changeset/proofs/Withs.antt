@@ -108,19 +108,11 @@ module _ {A : Type 0} (refuse : ℕ → ℕ → A) (s : List ℕ) {rest : A → 
   pub header_twice : Header A refuse s rest x → Header A refuse s (Header A refuse s rest) x
   header_twice p = header_map (λ z. z) refuse s (λ h r. past_header refuse {s = s} h r) p
 
--- what `write_in` gives where it refuses is not what it gives where it does not
-not_written : (k r g : ℕ) → writing_refusal k r g ≡ Ok tt → ⊥
-not_written k r g e = omega (arith, ap taken e)
-  where
-    taken : Writing → ℕ
-    taken (Ok done) = 1
-    taken (Err w) = 0
-
 -- From what `write_in` gave to the operation's own outcome
 module _ (s c out : List ℕ) where
   written : WritesIn s c out (Ok tt)
       → Headed s × Formed c × RowsRise (nodes_of s) c × Over s c (BeginsWith s out) (Ok tt)
-  written p = with_past writing_refusal s c (λ k r g n. not_written k r g) p
+  written p = with_past writing_refusal s c (λ k r g n e. grind (arith, e)) p
 
   -- the part that the operation is given lies in the buffer
   pub written_fits : WritesIn s c out (Ok tt) → length s ≤ 49152
@@ -133,7 +125,9 @@ module _ (s c out : List ℕ) where
     pub refused_with : (w : Refusal) → WritesIn s c out (Err w) → With A refuse s c Promise (refuse w.number w.row 0)
     refused_with w p =
         header_map handed (λ k r. writing_refusal k r 0) s
-        (λ h. unless_map handed (λ f. unless_map handed (λ g o. absurd (not_written w.number w.row 0 o.promise.none)))) p
+        (λ h. unless_map handed
+        (λ f. unless_map handed (λ g o. absurd (grind (arith, o.promise.none)))))
+        p
       where
         handed : Writing → A
         handed (Ok done) = refuse 0 0 0

@@ -1,8 +1,8 @@
 -- From what `changed_table` gave to the operation's own outcome: a refusal is handed on, and the changed table goes on
 -- to the operation's promise.
 use Prim.Native.Nat.{ℕ}
-use mathlib.Core.Path.{◌≡◌, refl, ap}
-use mathlib.Core.List.{List, []}
+use mathlib.Core.Path.{◌≡◌, refl}
+use mathlib.Core.List.{List}
 use native.Mathlib.Omega.{arith}
 use lib.ListN.{length, take}
 use Rattle.std.specs.Prelude.{Ok, Err}
@@ -14,18 +14,6 @@ use Rattle.changeset.specs.With.{With}
 use Rattle.changeset.specs.work.Buffer.{WritesIn}
 use Rattle.changeset.proofs.Withs.{with_past, with_there, refused_with, passed_with}
 use Rattle.frozen.specs.work.Changed.{Changed, changed_refusal, Makes}
-
-not_made : {t : List ℕ} (k r g : ℕ) → changed_refusal k r g ≡ Ok t → ⊥
-not_made k r g e = omega (arith, ap taken e)
-  where
-    taken : Changed → ℕ
-    taken (Ok t) = 1
-    taken (Err w) = 0
-
--- the changed table of an outcome that is none of these refusals
-abbrev table_in : Changed → List ℕ
-table_in (Ok t) = t
-table_in (Err w) = []
 
 module _ (s c : List ℕ) where
   -- what `write_in` gave
@@ -41,7 +29,7 @@ module _ (s c : List ℕ) where
     handed_on w p =
         header_map handed (λ k r. changed_refusal k r 0) s
         (λ h. unless_map handed
-        (λ f. unless_map handed (λ g o. absurd (not_made w.number w.row w.ring o.promise))))
+        (λ f. unless_map handed (λ g o. absurd (grind (arith, o.promise)))))
         p
       where
         handed : Changed → A
@@ -50,7 +38,7 @@ module _ (s c : List ℕ) where
 
     pub asked_of : {t : List ℕ} {x : A} → Makes s c (Ok t) → Promise t x → With A refuse s c Promise x
     asked_of {t} p q =
-        let made = with_past changed_refusal s c (λ k r g n. not_made k r g) p in
+        let made = with_past changed_refusal s c (λ k r g n e. grind (arith, e)) p in
         let o = made.3 in
-        let e : t ≡ o.table = ap table_in o.promise in
+        let e : t ≡ o.table = grind (arith, o.promise) in
         with_there refuse s c made.0 made.1 made.2 o.table o.changed (rw e at q)

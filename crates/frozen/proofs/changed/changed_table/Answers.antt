@@ -6,7 +6,7 @@ use Rattle.frozen.proofs.changed.changed_table.Goals as goal
 pub returns-in_err-write_in : goal.returns-in_err-write_in
 returns-in_err-write_in c =
     let p = err_from_is_err_and c.from_residual.result c.from_residual.ensures.1 in
-    rw (p.1, p.2) (made_none c.args.table.now c.args.changes.now _ c.in_err-write_in.ensures)
+    rw (p.1, p.2) (made_none _ _ _ c.in_err-write_in.ensures)
 
 pub returns : goal.returns
-returns c = made c.args.table.now c.args.changes.now c.in_ok-write_in.ensures
+returns c = made _ _ c.in_ok-write_in.ensures

@@ -9,9 +9,10 @@ use Rattle.frozen.proofs.lists.window_list_with.Goals as goal
 pub returns-in_err-changed : goal.returns-in_err-changed
 returns-in_err-changed c =
     let p = err_from_is_err_and c.from_residual.result c.from_residual.ensures.1 in
-    rw (p.1, p.2) (handed_on c.args.table.now c.args.changes.now (listing_refusal c.args.rows.now) _ c.in_err-changed.ensures)
+    rw (p.1, p.2) (handed_on _ _ (listing_refusal c.args.rows.now) _ c.in_err-changed.ensures)
 
 pub returns : goal.returns
 returns c =
-    asked_of c.args.table.now c.args.changes.now (listing_refusal c.args.rows.now) c.in_ok-changed.ensures
-    (rw (to_z-of_z w64 c.args.floor c.ranges.floor, to_z-of_z w64 c.args.ceiling c.ranges.ceiling) at c.window_list.ensures)
+    asked_of _ _ (listing_refusal c.args.rows.now) c.in_ok-changed.ensures
+    (rw (to_z-of_z w64 c.args.floor c.ranges.floor, to_z-of_z w64 c.args.ceiling c.ranges.ceiling) at
+    c.window_list.ensures)

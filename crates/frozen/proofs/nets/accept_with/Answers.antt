@@ -7,7 +7,7 @@ use Rattle.frozen.proofs.nets.accept_with.Goals as goal
 pub returns-in_err-changed : goal.returns-in_err-changed
 returns-in_err-changed c =
     let p = err_from_is_err_and c.from_residual.result c.from_residual.ensures.1 in
-    rw (p.1, p.2) (handed_on c.args.table.now c.args.changes.now accept_refusal _ c.in_err-changed.ensures)
+    rw (p.1, p.2) (handed_on _ _ accept_refusal _ c.in_err-changed.ensures)
 
 pub returns : goal.returns
-returns c = asked_of c.args.table.now c.args.changes.now accept_refusal c.in_ok-changed.ensures c.accept.ensures
+returns c = asked_of _ _ accept_refusal c.in_ok-changed.ensures c.accept.ensures

@@ -9,9 +9,9 @@ use Rattle.frozen.proofs.nets.window_with.Goals as goal
 pub returns-in_err-changed : goal.returns-in_err-changed
 returns-in_err-changed c =
     let p = err_from_is_err_and c.from_residual.result c.from_residual.ensures.1 in
-    rw (p.1, p.2) (handed_on c.args.table.now c.args.changes.now window_refusal _ c.in_err-changed.ensures)
+    rw (p.1, p.2) (handed_on _ _ window_refusal _ c.in_err-changed.ensures)
 
 pub returns : goal.returns
 returns c =
-    asked_of c.args.table.now c.args.changes.now window_refusal c.in_ok-changed.ensures
+    asked_of _ _ window_refusal c.in_ok-changed.ensures
     (rw (to_z-of_z w64 c.args.floor c.ranges.floor, to_z-of_z w64 c.args.ceiling c.ranges.ceiling) at c.window.ensures)

@@ -7,7 +7,7 @@ use Rattle.frozen.proofs.runs.claim_with.Goals as goal
 pub returns-in_err-changed : goal.returns-in_err-changed
 returns-in_err-changed c =
     let p = err_from_is_err_and c.from_residual.result c.from_residual.ensures.1 in
-    rw (p.1, p.2) (handed_on c.args.table.now c.args.changes.now (change_refusal c.args.marks.now) _ c.in_err-changed.ensures)
+    rw (p.1, p.2) (handed_on _ _ (change_refusal c.args.marks.now) _ c.in_err-changed.ensures)
 
 pub returns : goal.returns
-returns c = asked_of c.args.table.now c.args.changes.now (change_refusal c.args.marks.now) c.in_ok-changed.ensures c.claim.ensures
+returns c = asked_of _ _ (change_refusal c.args.marks.now) c.in_ok-changed.ensures c.claim.ensures

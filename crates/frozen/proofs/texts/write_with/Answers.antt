@@ -16,10 +16,10 @@ returns-in_err-changed c =
     let p = err_from_is_err_and c.from_residual.result c.from_residual.ensures.1 in
     rw (p.1, p.2)
     (version_on refuse c.args.table.now c.version_one-v.ensures c.if-v-ne0.false
-    (handed_on c.args.table.now c.args.changes.now refuse _ c.in_err-changed.ensures))
+    (handed_on _ _ refuse _ c.in_err-changed.ensures))
 
 pub returns : goal.returns
 returns c =
     let refuse = write_refusal c.args.lengths.now c.args.weights.now in
     version_on refuse c.args.table.now c.version_one-v.ensures c.if-v-ne0.false
-    (asked_of c.args.table.now c.args.changes.now refuse c.in_ok-changed.ensures c.write.ensures)
+    (asked_of _ _ refuse c.in_ok-changed.ensures c.write.ensures)
