@@ -15,6 +15,7 @@ pub fn write_with(
     ensures { WriteWith table.now changes.now lengths.old weights.old
         (result, lengths.new, weights.new) }
 {
+    // A number, 0 for none: so `version_one` of dimacs promises it, by `VersionOne`.
     let v = dimacs::version_one(table);
     if v != 0 {
         return Err(Refusal {
