@@ -8,8 +8,7 @@ use Rattle.table.proofs.Bound.{nodes_same}
 use Rattle.net.proofs.Bound.{first_same, second_same, length_same}
 use Rattle.marks.proofs.Weights.{under_same}
 use Rattle.tree.proofs.Bound.{begins_same}
-use Rattle.heaviest.specs.Heaviest.{heaviest_refusal, Chooses, HeaviestWithin}
-use Rattle.heaviest.specs.declared.HeaviestAnswer.{HeaviestAnswer}
+use Rattle.heaviest.specs.Heaviest.{heaviest_refusal, Chooses, HeaviestWithin, HeaviestAnswer}
 
 module _ (none : ℕ) (Within : ℕ → Type 0) {s t : List ℕ} (e : SameButBound s t) (marks : List ℕ) where
   chooses_same : {x : HeaviestAnswer} → Chooses none Within s (nodes_of s) marks x

@@ -1,28 +1,24 @@
 -- NO ANSWER TELLS OF A COMMIT: pair, heaviest and listing, these two in both modes, window, window_list and vet answer
 -- after a commit as they did before it, whether it was refused or not. The marks before and after are free at the same
 -- places, and who holds or has spent a branch never shows. It stands in this crate, which sees all of these operations.
+use Rattle.vetting.specs.Vets.{Vetted}
+use Rattle.paging.specs.Paging.{Listed}
 use Prim.Native.Nat.{ℕ}
 use mathlib.Core.Path.{◌≡◌, sym}
 use mathlib.Core.List.{List}
 use lib.IntN.{ℤ}
 use Rattle.marks.proofs.Weights.{Alike}
-use Rattle.changes.specs.Change.{Commits}
-use Rattle.changes.specs.declared.Change.{Change}
+use Rattle.changes.specs.Change.{Commits, Change}
 use Rattle.changes.proofs.Freed.{Leaves, commit_alike}
-use Rattle.pair.specs.Pair.{PairOf}
-use Rattle.pair.specs.declared.PairAnswer.{PairAnswer}
+use Rattle.pair.specs.Pair.{PairOf, PairAnswer}
 use Rattle.pair.proofs.Holders.{pair_holders}
-use Rattle.heaviest.specs.Heaviest.{HeaviestWithin}
-use Rattle.heaviest.specs.declared.HeaviestAnswer.{HeaviestAnswer}
+use Rattle.heaviest.specs.Heaviest.{HeaviestWithin, HeaviestAnswer}
 use Rattle.heaviest.proofs.Holders.{heaviest_holders_never_show}
-use Rattle.paging.specs.declared.Listed.{Listed}
 use Rattle.listing.specs.Listing.{ListingWithin}
 use Rattle.listing.proofs.Holders.{holders_never_show}
-use Rattle.window.specs.Window.{Window, WindowOf}
+use Rattle.window.specs.Window.{Window, WindowOf, WindowAnswer}
 use Rattle.window.specs.List.{WindowListOf}
-use Rattle.window.specs.declared.WindowAnswer.{WindowAnswer}
 use Rattle.window.proofs.Holders.{window_holders_never_show, window_list_holders_never_show}
-use Rattle.vetting.specs.declared.Vetted.{Vetted}
 use Rattle.vet.specs.Vet.{VetOf}
 use Rattle.vet.proofs.Holders.{vet_holders_never_show}
 

@@ -1,5 +1,6 @@
 -- A lower floor, under any length test: what qualifies for the higher floor qualifies for the lower one, so the higher
 -- floor's list is a sublist of the lower one's, and so are the rows that calls gave. No refusal asks for the floor.
+use Rattle.std.specs.Prelude.{Ok, Err}
 use Prim.Native.Nat.{ℕ, ◌/◌}
 use mathlib.Core.Path.{◌≡◌, refl, ap, ◌∙◌}
 use mathlib.Core.List.{List}
@@ -16,10 +17,8 @@ use Rattle.pages.specs.Listing.{Entry, Listing}
 use Rattle.pages.specs.Bytes.{entries}
 use Rattle.pages.proofs.Rows.{rows_length}
 use Rattle.pages.proofs.Qualifying.{passes_map}
-use Rattle.paging.specs.Paging.{listing_refusal, GivesPage}
+use Rattle.paging.specs.Paging.{listing_refusal, GivesPage, Listed}
 use Rattle.paging.specs.Asks.{Asks}
-use Rattle.paging.specs.declared.Listed.{Listed}
-use Rattle.paging.specs.declared.Listed.TheVariants.{Rows, Refused}
 use Rattle.paging.proofs.Demand3.{there_is, join_up, loses_nothing}
 use Rattle.ground.specs.Considered.{Considered}
 use Rattle.listing.specs.Listing.{ListingWithin}
@@ -57,8 +56,8 @@ module _ (Within : ℕ → Type 0) (s marks : List ℕ) {floor lower : ℤ} (h :
 
 -- where the first is a refusal, the second is the same
 abbrev Refuses : Listed × List ℕ → Type 0
-Refuses (Refused why, now) = Unit {0}
-Refuses (Rows written left, now) = ⊥
+Refuses (Err why, now) = Unit {0}
+Refuses (Ok o, now) = ⊥
 
 abbrev RefusedAlike : Listed × List ℕ → Listed × List ℕ → Type 0
 RefusedAlike x y = Refuses x → y ≡ x
@@ -66,14 +65,14 @@ RefusedAlike x y = Refuses x → y ≡ x
 -- pages are no refusals
 pages : (P Q : Entry → Type 0) (low high : ℕ) (old : List ℕ) (x y : Listed × List ℕ) → GivesPage P low high old x
     → GivesPage Q low high old y → RefusedAlike x y
-pages P Q low high old (Refused why, now) y p q r = absurd p
-pages P Q low high old (Rows written left, now) y p q r = absurd r
+pages P Q low high old (Err why, now) y p q r = absurd p
+pages P Q low high old (Ok o, now) y p q r = absurd r
 
 pub floor_refuses_none : (Within : ℕ → Type 0) (s marks : List ℕ) (floor other : ℤ) (low high : ℕ) (old now : List ℕ)
-    (why : Refusal) (y : Listed × List ℕ) → ListingWithin Within s marks floor low high old (Refused why, now)
-    → ListingWithin Within s marks other low high old y → y ≡ (Refused why, now)
+    (why : Refusal) (y : Listed × List ℕ) → ListingWithin Within s marks floor low high old (Err why, now)
+    → ListingWithin Within s marks other low high old y → y ≡ (Err why, now)
 floor_refuses_none Within s marks floor other low high old now why y p q =
     begins_both RefusedAlike (listing_refusal old) s (λ k r g _. refl)
     (λ _. unless_both RefusedAlike (λ _. refl)
     (λ _. unless_both RefusedAlike (λ _. refl) (λ _. pages _ _ low high old)))
-    (Refused why, now) y p q tt
+    (Err why, now) y p q tt

@@ -1,6 +1,7 @@
 -- The heaviest of some pairs beside the heaviest of others. Where each of the first has one among the second that
 -- weighs no less, a run found stays found and weighs no less. Where there was none one may turn up; under other marks
 -- it does not, since the same pairs are within the length test. 1 to 11 and 13 refuse both alike.
+use Rattle.std.specs.Prelude.{Ok, Err}
 use Prim.Native.Nat.{ℕ}
 use mathlib.Core.Path.{◌≡◌, refl, sym}
 use mathlib.Core.List.{List}
@@ -15,9 +16,14 @@ use Rattle.pages.specs.Listing.{Entry, entry}
 use Rattle.pages.proofs.Qualifying.{passes_map}
 use Rattle.marks.proofs.Weights.{Freer}
 use Rattle.ground.proofs.Alike.{under, under_passes, under_keeps}
-use Rattle.heaviest.specs.Heaviest.{heaviest_refusal, PairsWithin, GivesHeaviest, Chooses, HeaviestWithin}
-use Rattle.heaviest.specs.declared.HeaviestAnswer.{HeaviestAnswer}
-use Rattle.heaviest.specs.declared.HeaviestAnswer.TheVariants.{Between, Refused}
+use Rattle.heaviest.specs.Heaviest.{
+  heaviest_refusal,
+  PairsWithin,
+  GivesHeaviest,
+  Chooses,
+  HeaviestWithin,
+  HeaviestAnswer,
+}
 use Rattle.relaxing.specs.Relaxed.{NotLess, alike, found, NoWorse, not_less, turned_up}
 
 -- each of P has one of Q that weighs no less
@@ -29,11 +35,11 @@ Some P = (e : Entry) × P e
 
 runs : {P Q : Entry → Type 0} → Covered P Q → (x y : HeaviestAnswer) → GivesHeaviest P x → GivesHeaviest Q y
     → NotLess x y
-runs c (Between a b l w) (Between a' b' l' w') p q =
-    let f = c (entry a b l w) p.one in
+runs c (Ok o) (Ok best) p q =
+    let f = c (entry o.low o.high o.length o.weight) p.one in
     found (≤ℤ-trans f.2 (q.best f.0 f.1).weight)
-runs c (Between a b l w) (Refused why) p q = absurd q
-runs c (Refused why) y p q = absurd p
+runs c (Ok o) (Err why) p q = absurd q
+runs c (Err why) y p q = absurd p
 
 -- what is asked of two outcomes: a relation that NotLess implies, and what it says where only the second is found
 module _ (none : ℕ) (R : HeaviestAnswer → HeaviestAnswer → Type 0) (so : (x y : HeaviestAnswer) → NotLess x y → R x y)
@@ -70,8 +76,8 @@ module _ (Within Within' : ℕ → Type 0) (looser : (l : ℕ) → Within l → 
 
   turning_up : (y : HeaviestAnswer) → GivesHeaviest (PairsWithin Within' s marks (nodes_of s)) y
       → NoWorse (heaviest_refusal 16 0 0) y
-  turning_up (Between a b l w) q = turned_up
-  turning_up (Refused why) q = absurd q
+  turning_up (Ok o) q = turned_up
+  turning_up (Err why) q = absurd q
 
   pub looser_no_worse : (x y : HeaviestAnswer) → HeaviestWithin 16 Within s marks x
       → HeaviestWithin 16 Within' s marks y → NoWorse x y
@@ -91,11 +97,11 @@ module _ (none : ℕ) (Within : ℕ → Type 0) (s marks marks' : List ℕ) (f :
     (many : length marks ≡ length marks') where
   found_both : ¬ Some (PairsWithin Within s marks (nodes_of s)) → (y : HeaviestAnswer)
       → GivesHeaviest (PairsWithin Within s marks' (nodes_of s)) y → NotLess (heaviest_refusal none 0 0) y
-  found_both m (Between a b l w) q =
-      let e : Entry = entry a b l w in
+  found_both m (Ok o) q =
+      let e : Entry = entry o.low o.high o.length o.weight in
       let back = under_passes s marks' marks (nodes_of s) e q.one in
       absurd (m (under s marks' marks (nodes_of s) e q.one, back))
-  found_both m (Refused why) q = absurd q
+  found_both m (Err why) q = absurd q
 
   pub freer_not_less : (x y : HeaviestAnswer) → HeaviestWithin none Within s marks x
       → HeaviestWithin none Within s marks' y → NotLess x y

@@ -2,6 +2,8 @@
 -- the listing gave for the same table, marks and floor; so the pages of these calls are a yes, joined in any order. For
 -- what the calls gave is the listing (demand 3), each page is whole rows, and where a call gave rows the table is
 -- accepted and has a mark for each branch.
+use Rattle.vetting.specs.declared.Verdict.TheVariants.{Yes}
+use Rattle.std.specs.Prelude.{Ok, Err}
 use Prim.Native.Nat.{ℕ, ◌-◌, ◌*◌, ◌%◌, ◌≤◌}
 use mathlib.Core.Path.{◌≡◌, refl, sym, ◌∙◌}
 use mathlib.Core.Logic.{◌↔◌}
@@ -14,23 +16,18 @@ use Rattle.arrays.specs.Members.{In, at, past}
 use Rattle.arrays.proofs.Members.{in_one}
 use Rattle.table.specs.Header.{nodes_of, bound_of}
 use Rattle.table.proofs.Refusals as refusals
-use Rattle.tree.specs.Accept.{Accepts}
-use Rattle.tree.specs.declared.Acceptance.{Acceptance}
-use Rattle.tree.specs.declared.Acceptance.TheVariants as acceptance
+use Rattle.tree.specs.Accept.{Accepts, Acceptance, acceptance}
 use Rattle.tree.proofs.Begins.{begins_map, begins_rest}
 use Rattle.pages.specs.Listing.{Entry}
 use Rattle.pages.specs.Bytes.{rows}
 use Rattle.paging.specs.Asks.{Asks, last, next, pages_of}
-use Rattle.paging.specs.Paging.{listing_refusal}
-use Rattle.paging.specs.declared.Listed.{Listed}
-use Rattle.paging.specs.declared.Listed.TheVariants.{Rows, Refused}
+use Rattle.paging.specs.Paging.{listing_refusal, Listed, listed}
 use Rattle.paging.proofs.Demand3.{there_is, join_up}
 use Rattle.paging.proofs.Only.{not_refused}
 use Rattle.listing.specs.Listing.{ListingOf}
 use Rattle.listing.proofs.Demand3.{listing_lists}
 use Rattle.listing.proofs.Few.{listing_room}
 use Rattle.vetting.specs.Shuffled.{Shuffled}
-use Rattle.vetting.specs.declared.Vetted.TheVariants.{Yes}
 use Rattle.vet.specs.Vet.{VetOf}
 use Rattle.vet.proofs.Theorems.{yes_exactly, any_order_yes}
 use Rattle.relaxing.specs.Relaxed.{Gave, rows_in}
@@ -39,13 +36,13 @@ use Rattle.relaxing.proofs.Floors.{asked_rows}
 module _ (s marks : List ℕ) (floor : ℤ) where
   -- where a call gave rows the table is accepted, and has a mark for each branch
   record Accepting : Type 0 where
-    accepted : Accepts s (acceptance.Accepted (nodes_of s) (bound_of s))
+    accepted : Accepts s (acceptance (nodes_of s) (bound_of s))
     marked : length marks ≡ nodes_of s - 1
 
   call_accepting : {low high written left : ℕ} {old bytes : List ℕ}
-      → ListingOf s marks floor low high old (Rows written left, bytes) → Accepting
+      → ListingOf s marks floor low high old (listed written left, bytes) → Accepting
   call_accepting {old = old} p =
-      let a : Accepts s (acceptance.Accepted (nodes_of s) (bound_of s)) = begins_map seen (listing_refusal old) s
+      let a : Accepts s (acceptance (nodes_of s) (bound_of s)) = begins_map seen (listing_refusal old) s
       (λ _ _. refl) p in
       record {
         accepted = a;
@@ -53,8 +50,8 @@ module _ (s marks : List ℕ) (floor : ℤ) where
       }
     where
       seen : Listed × List ℕ → Acceptance
-      seen (Rows written left, bytes) = acceptance.Accepted (nodes_of s) (bound_of s)
-      seen (Refused why, bytes) = acceptance.Refused why
+      seen (Ok o, bytes) = acceptance (nodes_of s) (bound_of s)
+      seen (Err why, bytes) = Err why
 
   accepting : {low high : ℕ} {joined : List ℕ} → Asks (ListingOf s marks floor) low high joined → Accepting
   accepting (last h p) = call_accepting p
@@ -68,7 +65,7 @@ module _ (s marks : List ℕ) (floor : ℤ) where
   pages_join (next h p l r) = cc (pages_join r)
 
   page_whole : {low high written left : ℕ} {old bytes : List ℕ}
-      → ListingOf s marks floor low high old (Rows written left, bytes) → length (take (16 * written) bytes) % 16 ≡ 0
+      → ListingOf s marks floor low high old (listed written left, bytes) → length (take (16 * written) bytes) % 16 ≡ 0
   page_whole {low} {high} {written} {left} {old} {bytes} p =
       omega (
         arith,
@@ -84,7 +81,7 @@ module _ (s marks : List ℕ) (floor : ℤ) where
   module _ {joined : List ℕ} (a : Gave s marks floor joined) where
     -- the rows given, in some order, and nothing else
     pub yes_exactly_given : (list : List ℕ)
-        → VetOf s marks floor list Yes ↔ ((k : List Entry) × Shuffled (rows_in joined) k × (list ≡ rows k))
+        → VetOf s marks floor list (Ok Yes) ↔ ((k : List Entry) × Shuffled (rows_in joined) k × (list ≡ rows k))
     yes_exactly_given list =
         let t = accepting a in
         let w = there_is (listing_lists (λ l. l ≤ bound_of s) s marks floor) a in
@@ -93,7 +90,7 @@ module _ (s marks : List ℕ) (floor : ℤ) where
 
     -- our own pages, in any order
     pub own_pages_yes : (others : List (List ℕ)) → Shuffled (pages_of a) others
-        → VetOf s marks floor (flatten others) Yes
+        → VetOf s marks floor (flatten others) (Ok Yes)
     own_pages_yes others h =
         let t = accepting a in
         let lists = listing_lists (λ l. l ≤ bound_of s) s marks floor in

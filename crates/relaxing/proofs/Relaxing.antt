@@ -4,6 +4,8 @@
 -- outcomes beside whole outcomes. The exact mode of Req 02 is not meant: there a larger B can lose a run, and the
 -- smallest net that shows it stands at the end. (Floors, claims and aborts do as much in that mode: Floors and Heaviest
 -- are over any length test.)
+use Rattle.std.specs.Prelude.{Err}
+use Rattle.paging.specs.Paging.{Listed}
 use Prim.Native.Nat.{ℕ, ◌≤◌, ◌<◌}
 use mathlib.Core.Path.{◌≡◌, refl, sym}
 use mathlib.Core.Logic.{◌⊎◌, inl, inr, ◌≢◌}
@@ -14,15 +16,10 @@ use lib.Seq.{get_or-set_other}
 use lib.Signed.{◌≤ℤ◌}
 use Rattle.table.specs.Header.{bound_of}
 use Rattle.tree.specs.declared.Refusal.{Refusal}
-use Rattle.changes.specs.Change.{Commits, Aborts}
+use Rattle.changes.specs.Change.{Commits, Aborts, Change}
 use Rattle.changes.specs.Claim.{Claims}
-use Rattle.changes.specs.declared.Change.{Change}
 use Rattle.changes.proofs.Freed.{claim_frees_none, abort_takes_none}
-use Rattle.heaviest.specs.Heaviest.{heaviest_refusal, HeaviestOf, HeaviestExactOf}
-use Rattle.heaviest.specs.declared.HeaviestAnswer.{HeaviestAnswer}
-use Rattle.heaviest.specs.declared.HeaviestAnswer.TheVariants.{Between, Refused}
-use Rattle.paging.specs.declared.Listed.{Listed}
-use Rattle.paging.specs.declared.Listed.TheVariants as listed
+use Rattle.heaviest.specs.Heaviest.{heaviest_refusal, HeaviestOf, HeaviestExactOf, HeaviestAnswer, between}
 use Rattle.listing.specs.Listing.{ListingOf}
 use Rattle.worked.specs.Cases.{net2}
 use Rattle.worked.proofs.Worked.{exact_found, exact_lost}
@@ -52,19 +49,19 @@ module _ {s t : List ℕ} (e : BoundRaised s t) (marks : List ℕ) where
       (heaviest_same 16 (λ l. l ≤ bound_of s) e.same marks p) q
 
   -- where there is a run of weight w, there is one then, of w or more
-  pub still_found : {a b l : ℕ} {w : ℤ} (y : HeaviestAnswer) → HeaviestOf s marks (Between a b l w)
+  pub still_found : {a b l : ℕ} {w : ℤ} (y : HeaviestAnswer) → HeaviestOf s marks (between a b l w)
       → HeaviestOf t marks y → FoundFrom w y
-  still_found {a} {b} {l} {w} y p q = read (larger_bound (Between a b l w) y p q)
+  still_found {a} {b} {l} {w} y p q = read (larger_bound (between a b l w) y p q)
     where
-      read : {y : HeaviestAnswer} → NoWorse (Between a b l w) y → FoundFrom w y
+      read : {y : HeaviestAnswer} → NoWorse (between a b l w) y → FoundFrom w y
       read (not_less (found h)) = h
 
   -- what is refused then was refused before, by the same number, row and ring
-  pub refused_before : (x : HeaviestAnswer) (why : Refusal) → HeaviestOf s marks x → HeaviestOf t marks (Refused why)
-      → x ≡ Refused why
-  refused_before x why p q = read (larger_bound x (Refused why) p q)
+  pub refused_before : (x : HeaviestAnswer) (why : Refusal) → HeaviestOf s marks x → HeaviestOf t marks (Err why)
+      → x ≡ Err why
+  refused_before x why p q = read (larger_bound x (Err why) p q)
     where
-      read : {x : HeaviestAnswer} → NoWorse x (Refused why) → x ≡ Refused why
+      read : {x : HeaviestAnswer} → NoWorse x (Err why) → x ≡ Err why
       read (not_less (alike w)) = refl
 
 -- A LOWER FLOOR for the same table and marks
@@ -76,8 +73,8 @@ module _ (s marks : List ℕ) {floor lower : ℤ} (h : lower ≤ℤ floor) where
 
 -- and a call that is refused with one floor is refused with any other, alike
 pub any_floor_refused : (s marks : List ℕ) (floor other : ℤ) (low high : ℕ) (old now : List ℕ) (why : Refusal)
-    (y : Listed × List ℕ) → ListingOf s marks floor low high old (listed.Refused why, now)
-    → ListingOf s marks other low high old y → y ≡ (listed.Refused why, now)
+    (y : Listed × List ℕ) → ListingOf s marks floor low high old (Err why, now)
+    → ListingOf s marks other low high old y → y ≡ (Err why, now)
 any_floor_refused s = floor_refuses_none (λ l. l ≤ bound_of s) s
 
 -- A CLAIM, AN ABORT, A COMMIT, of any run and nodes, refused or not: o is what it leaves, its answer and the marks; x
@@ -101,7 +98,7 @@ module _ (s before : List ℕ) {run : ℕ} (o : Change × List ℕ) (x y : Heavi
 
 -- THE EXACT MODE IS NOT MEANT: two nodes, one branch of length 0. With B 0 the exact mode finds it, with B 1 none
 pub exact_not_meant : BoundRaised (net2 0) (net2 1)
-    × HeaviestExactOf (net2 0) (0 ∷ []) (Between 0 1 0 (pos 0))
+    × HeaviestExactOf (net2 0) (0 ∷ []) (between 0 1 0 (pos 0))
     × HeaviestExactOf (net2 1) (0 ∷ []) (heaviest_refusal 21 0 0)
 unfolding net2
 exact_not_meant = (
