@@ -1,8 +1,8 @@
 -- What went before and what is still to come: a text at the front of the lent bytes comes next, and then what follows
 -- it.
+use Rattle.std.specs.Prelude.{None}
 use Prim.Native.Nat.{ℕ, ◌+◌, ◌<◌}
-use mathlib.Core.Path.{◌≡◌, refl, sym, ◌∙◌}
-use mathlib.Core.Bool.{false, false≢true}
+use mathlib.Core.Path.{◌≡◌, refl, sym}
 use mathlib.Core.List.{List, [], ◌∷◌, ◌++◌, append_assoc, append-nil}
 use native.Mathlib.Omega.{arith}
 use lib.ListN.{length, length-append}
@@ -85,18 +85,17 @@ pub out_last : {s o t out : List ℕ} {n place next : ℕ} → Rest s place t �
 out_last {t = t} r p e = out_before [] (rest_as (sym (append-nil t)) r) p e
 
 -- a piece that nothing follows: a text that is all that is to come, or none where it has ended
-last_shown : {s rows out : List ℕ} {p : Piece} {n place : ℕ} → (p.n ≡ n) × (p.place ≡ place) × (p.more ≡ false)
+last_shown : {s rows out : List ℕ} {p : Piece} {n place : ℕ} → (p.n ≡ n) × (p.place ≡ place) × (p.pairs ≡ None)
     → Comes s out n place → Rest s (place + n) [] → Shown s rows out p
 last_shown e c r = record {
   comes = rw (e.0, e.1) c;
-  last = λ _. rw (e.0, e.1) r;
-  goes = λ g. absurd (false≢true (sym e.2 ∙ g));
+  goes = rw (e.2, e.0, e.1) r;
 }
 
 pub put_shown : {s rows o t out : List ℕ} {p : Piece} {n place : ℕ}
-    → (p.n ≡ n) × (p.place ≡ place) × (p.more ≡ false) → Rest s place t → Put o 0 t out n → Shown s rows out p
+    → (p.n ≡ n) × (p.place ≡ place) × (p.pairs ≡ None) → Rest s place t → Put o 0 t out n → Shown s rows out p
 put_shown e r put = last_shown e (comes_last r put) (out_last r put refl)
 
 pub none_shown : {s rows out : List ℕ} {p : Piece} {place : ℕ}
-    → (p.n ≡ 0) × (p.place ≡ place) × (p.more ≡ false) → Rest s place [] → Shown s rows out p
+    → (p.n ≡ 0) × (p.place ≡ place) × (p.pairs ≡ None) → Rest s place [] → Shown s rows out p
 none_shown {place = place} e r = let z : place + 0 ≡ place = omega arith in last_shown e (comes_none r) (rw z r)

@@ -5,16 +5,14 @@ use mathlib.Core.List.{List, [], ◌++◌, append-nil}
 use native.Mathlib.Omega.{arith}
 use lib.ListN.{length, take, drop}
 use lib.Seq.{take_at, drop_at}
-use Rattle.tree.specs.Accept.{acceptance_refusal, Accepts}
+use Rattle.std.specs.Prelude.{Ok, Err}
+use Rattle.tree.specs.Accept.{acceptance, acceptance_refusal, Accepts}
 use Rattle.tree.specs.work.Why.{why_of}
 use Rattle.tree.specs.declared.Refusal.{Refusal}
-use Rattle.tree.specs.declared.Acceptance.TheVariants.{Accepted}
 use Rattle.tree.proofs.Begins.{admitted, accept_only, nothing_found}
 use Rattle.pages.specs.Listing.{Entry, Listing}
 use Rattle.pages.proofs.Listings.{listing_only}
-use Rattle.heaviest.specs.Heaviest.{heaviest_refusal, HeaviestOf}
-use Rattle.heaviest.specs.declared.HeaviestAnswer.{HeaviestAnswer}
-use Rattle.heaviest.specs.declared.HeaviestAnswer.TheVariants.{Between, Refused}
+use Rattle.heaviest.specs.Heaviest.{HeaviestAnswer, heaviest_refusal, HeaviestOf}
 use Rattle.heaviest.proofs.Only.{heaviest_only, heaviest_run_only}
 use Rattle.heaviest.proofs.Demand2.{found_best}
 use Rattle.lines.specs.Lines.{refused_text, net_text, best_text, pairs_text, total_text}
@@ -23,14 +21,14 @@ use Rattle.reporting.proofs.Whole.{between}
 
 -- why heaviest refuses, and zeros where it does not
 abbrev why_not : HeaviestAnswer → Refusal
-why_not (Between a b l w) = record { number = 0; row = 0; ring = 0 }
-why_not (Refused why) = why
+why_not (Ok o) = record { number = 0; row = 0; ring = 0 }
+why_not (Err why) = why
 
 module _ (s : List ℕ) where
-  not_both : {n b k r g : ℕ} → Accepts s (Accepted n b) → Accepts s (acceptance_refusal k r g) → ⊥
+  not_both : {n b k r g : ℕ} → Accepts s (acceptance n b) → Accepts s (acceptance_refusal k r g) → ⊥
   not_both a p = nothing_found (accept_only s _ _ p a)
 
-  same_net : {n b m c : ℕ} → Accepts s (Accepted n b) → Accepts s (Accepted m c) → (n ≡ m) × (b ≡ c)
+  same_net : {n b m c : ℕ} → Accepts s (acceptance n b) → Accepts s (acceptance m c) → (n ≡ m) × (b ≡ c)
   same_net {n} {b} a p =
       let d = admitted s n b a in
       let e = admitted s _ _ p in
@@ -41,8 +39,8 @@ module _ (s : List ℕ) where
   no_run marks p q = omega (arith, ap taken (heaviest_only s marks _ _ p q))
     where
       taken : HeaviestAnswer → ℕ
-      taken (Between a b l w) = 1
-      taken (Refused why) = 0
+      taken (Ok o) = 1
+      taken (Err why) = 0
 
   one_refusal : {k r g j q i : ℕ} → k ≡ j → r ≡ q → g ≡ i → refused_text k r g ≡ refused_text j q i
   one_refusal e f h = rw (e, f, h)

@@ -1,5 +1,7 @@
 -- Pages one after the other: the lines of a page are those of its entries; what follows its last row is what the next
 -- page begins with, and that has a row; none left over: the last line comes.
+use Rattle.std.proofs.Common.{rules}
+use Rattle.std.specs.Prelude.{Ok, Err, IsOk}
 use Prim.Native.Nat.{ℕ, suc, ◌+◌, ◌-◌, ◌*◌, ◌/◌, ◌≤◌, ◌<◌}
 use mathlib.Core.Path.{◌≡◌, refl, sym, ap, ◌∙◌}
 use mathlib.Core.List.{List, [], ◌∷◌, ◌++◌, append_assoc, append-nil}
@@ -21,8 +23,7 @@ use Rattle.pages.proofs.Rows.{rows_length}
 use Rattle.pages.proofs.Back.{rows_back, entries_next}
 use Rattle.pages.proofs.Pages.{pages_listing, page_full}
 use Rattle.pages.proofs.Calls.{calls_pages}
-use Rattle.tree.specs.declared.Refusal.{Refusal}
-use Rattle.paging.specs.declared.Listed.TheVariants.{Rows, Refused}
+use Rattle.paging.specs.Paging.{Listed, listed}
 use Rattle.listing.specs.Listing.{ListingOf}
 use Rattle.listing.proofs.Few.{listing_room, listing_few}
 use Rattle.listing.proofs.Only.{listing_page}
@@ -38,12 +39,14 @@ use Rattle.reporting.specs.work.Pieces.{Comes, Paging}
 use Rattle.reporting.proofs.Coming.{rest_as, comes_before, out_before}
 
 -- a call that is ready is answered by a page
-pub ready_taken : {s marks lent bytes : List ℕ} {floor : ℤ} {low high : ℕ} {why : Refusal}
-    → ListingReady s marks lent → ListingOf s marks floor low high lent (Refused why, bytes) → ⊥
-ready_taken {s} {marks} {floor = floor} r p = answered _ s marks floor r.accepted r.marked r.room p
+pub ready_taken : {s marks lent bytes : List ℕ} {floor : ℤ} {low high : ℕ} → ListingReady s marks lent
+    → (o : Listed) → ListingOf s marks floor low high lent (o, bytes) → IsOk o
+ready_taken r (Ok o) p = search rules
+ready_taken {s} {marks} {floor = floor} r (Err why) p =
+    absurd (answered _ s marks floor r.accepted r.marked r.room p)
 
 pub ready_asked : {s marks lent bytes : List ℕ} {floor : ℤ} {low high written left : ℕ} → ListingReady s marks lent
-    → ListingOf s marks floor low high lent (Rows written left, bytes)
+    → ListingOf s marks floor low high lent (listed written left, bytes)
     → Asked s marks floor low high bytes written left
 ready_asked {s} {marks} {lent} {bytes} {floor} {low} {high} {written} {left} r p =
     let n = listing_page _ s marks floor low high lent p in

@@ -1,7 +1,7 @@
 -- From piece to piece: the lines of the page's next rows, of the page after it, or the last line.
+use Rattle.std.specs.Prelude.{Some}
 use Prim.Native.Nat.{ℕ, ◌+◌, ◌-◌, ◌*◌, ◌≤◌, ◌<◌}
-use mathlib.Core.Path.{◌≡◌, refl, sym, ap, ◌∙◌}
-use mathlib.Core.Bool.{true≢false}
+use mathlib.Core.Path.{◌≡◌, refl, ap, ◌∙◌}
 use mathlib.Core.List.{List}
 use native.Mathlib.Omega.{arith}
 use lib.ListN.{length, length-replicate}
@@ -15,6 +15,7 @@ use Rattle.reporting.specs.Report.{all_free, Rest}
 use Rattle.reporting.specs.work.Asked.{ListingReady, Asked}
 use Rattle.reporting.specs.work.Pieces.{ReportLent, Going, Shown}
 use Rattle.reporting.specs.declared.Piece.{Piece}
+use Rattle.reporting.specs.declared.Pairs.{Pairs}
 use Rattle.reporting.proofs.Coming.{next_fits}
 use Rattle.reporting.proofs.Paging.{asked_some, paging_comes, paging_on, paging_last, paging_again, again_some}
 
@@ -28,27 +29,19 @@ pub shown_fits : {s rows out : List ℕ} {p : Piece} → Shown s rows out p → 
 shown_fits {out = out} {p = p} h =
     omega (arith, next_fits _ h.comes.next, length-take-le p.n out h.comes.room)
 
-module _ {s rows : List ℕ} {p : Piece} {at : ℕ} (g : Going s rows p at) where
+module _ {s rows : List ℕ} {p : Pairs} {at : ℕ} (g : Going s rows p at) where
   -- some rows more
-  pub rows_shown : {o out : List ℕ} {e n : ℕ} → p.row < e → e ≤ p.written
+  pub rows_shown : {o out : List ℕ} {e n : ℕ} → p.row < e → e ≤ p.page.written
       → Put o 0 (pairs_text (entries rows p.row (e - p.row))) out n
       → Shown s rows out
       (record {
         n = n;
         place = at;
-        more = p.more;
-        nodes = p.nodes;
-        floor = p.floor;
-        total = p.total;
-        written = p.written;
-        left = p.left;
-        row = e;
+        pairs = Some (record { nodes = p.nodes; floor = p.floor; total = p.total; page = p.page; row = e });
       })
   rows_shown h k put = record {
     comes = paging_comes g.paging h k put;
-    last = λ f. absurd (true≢false (sym g.more ∙ f));
-    goes = λ _. record {
-      more = g.more;
+    goes = record {
       accepted = g.accepted;
       nodes = g.nodes;
       fits = g.fits;
@@ -71,9 +64,9 @@ module _ {s rows : List ℕ} {p : Piece} {at : ℕ} (g : Going s rows p at) wher
   }
 
   -- the next page
-  module _ {marks rows₂ : List ℕ} {written₂ left₂ a b : ℕ} (end : p.written ≤ p.row) (some : 0 < p.left)
-      (m : marks ≡ all_free p.nodes) (e : a ≡ u16_at rows (16 * (p.written - 1)))
-      (f : b ≡ u16_at rows (16 * (p.written - 1) + 2)) (q : Asked s marks p.floor a b rows₂ written₂ left₂) where
+  module _ {marks rows₂ : List ℕ} {written₂ left₂ a b : ℕ} (end : p.page.written ≤ p.row) (some : 0 < p.page.left)
+      (m : marks ≡ all_free p.nodes) (e : a ≡ u16_at rows (16 * (p.page.written - 1)))
+      (f : b ≡ u16_at rows (16 * (p.page.written - 1) + 2)) (q : Asked s marks p.floor a b rows₂ written₂ left₂) where
     free : Asked s (all_free p.nodes) p.floor a b rows₂ written₂ left₂
     free = rw m at q
 
@@ -82,19 +75,14 @@ module _ {s rows : List ℕ} {p : Piece} {at : ℕ} (g : Going s rows p at) wher
 
     pub page_going : Going s rows₂
         (record {
-          n = p.n;
-          place = p.place;
-          more = p.more;
           nodes = p.nodes;
           floor = p.floor;
           total = p.total;
-          written = written₂;
-          left = left₂;
+          page = record { written = written₂; left = left₂ };
           row = 0;
         })
         at
     page_going = record {
-      more = g.more;
       accepted = g.accepted;
       nodes = g.nodes;
       fits = g.fits;
@@ -102,12 +90,12 @@ module _ {s rows : List ℕ} {p : Piece} {at : ℕ} (g : Going s rows p at) wher
     }
 
   -- the last line
-  pub going_last : p.written ≤ p.row → p.left ≤ 0 → Rest s at (total_text p.total)
+  pub going_last : p.page.written ≤ p.row → p.page.left ≤ 0 → Rest s at (total_text p.total)
   going_last h z = paging_last g.paging h z
 
   -- a row of the page that was read stands in the lent bytes
-  pub going_inside : 16 * p.written ≤ length rows
+  pub going_inside : 16 * p.page.written ≤ length rows
   going_inside = g.paging.asked.inside
 
-  pub going_row : 0 < p.left → 0 < p.written
+  pub going_row : 0 < p.page.left → 0 < p.page.written
   going_row = asked_some g.paging.asked

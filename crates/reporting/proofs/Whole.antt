@@ -1,7 +1,7 @@
 -- From the outcomes of acceptance, heaviest and the first page to the whole report: it is there, and it is short.
+use Rattle.std.specs.Prelude.{Some}
 use Prim.Native.Nat.{ℕ, zero, suc, ◌+◌, ◌-◌, ◌≤◌, ◌<◌}
 use mathlib.Core.Path.{◌≡◌, refl, ap, ◌∙◌}
-use mathlib.Core.Bool.{true, true≢false}
 use mathlib.Core.List.{List, ◌∷◌, ◌++◌}
 use native.Mathlib.Omega.{arith}
 use lib.IntN.{ℤ}
@@ -10,16 +10,14 @@ use mir.Syntax.{w64}
 use mir.Val.{SFits, to_z, of_z}
 use mir.ValLaws.{to_z-of_z}
 use Rattle.table.specs.Header.{nodes_of, bound_of}
-use Rattle.tree.specs.Accept.{acceptance_refusal, Accepts}
-use Rattle.tree.specs.declared.Acceptance.TheVariants.{Accepted}
+use Rattle.tree.specs.Accept.{acceptance, acceptance_refusal, Accepts}
 use Rattle.tree.proofs.Begins.{admitted}
 use Rattle.pages.specs.Listing.{Entry, entry, Listing}
 use Rattle.pages.specs.Passes.{Passes}
 use Rattle.pages.proofs.Pages.{whole_follows}
 use Rattle.ground.specs.PathOf.{PathOf}
-use Rattle.heaviest.specs.Heaviest.{heaviest_refusal, HeaviestOf}
-use Rattle.heaviest.specs.declared.HeaviestAnswer.{HeaviestAnswer}
-use Rattle.heaviest.specs.declared.HeaviestAnswer.TheVariants.{Between}
+use Rattle.heaviest.specs.Heaviest.{HeaviestAnswer, heaviest_refusal, HeaviestOf}
+use Rattle.heaviest.specs.Heaviest as heaviest
 use Rattle.ground.proofs.Bounds.{passes_fits}
 use Rattle.heaviest.proofs.Demand2.{found_best}
 use Rattle.text.specs.work.Put.{Put}
@@ -38,7 +36,7 @@ module _ (s : List ℕ) (k r g : ℕ) (kf : k < 18446744073709551616) (rf : r < 
   pub refused_rest : Accepts s (acceptance_refusal k r g) → Rest s 0 (refused_text k r g)
   refused_rest p = rest_all (refused p) (omega (arith, refused_few k r g kf rf gf))
 
-  pub none_rest : (marks : List ℕ) (n b : ℕ) → Accepts s (Accepted n b) → marks ≡ all_free n
+  pub none_rest : (marks : List ℕ) (n b : ℕ) → Accepts s (acceptance n b) → marks ≡ all_free n
       → HeaviestOf s marks (heaviest_refusal k r g) → Rest s 0 (refused_text k r g)
   none_rest marks n b a e p =
       rest_all (none {n = n} {b = b} a (rw e at p)) (omega (arith, refused_few k r g kf rf gf))
@@ -49,10 +47,10 @@ as_weighing s marks n b n₂ b₂ e h k f w = let g : marks ≡ all_free n₂ = 
 
 -- the answer that gives an entry
 abbrev pub between : Entry → HeaviestAnswer
-between e = Between e.low e.high e.length e.weight
+between e = heaviest.between e.low e.high e.length e.weight
 
 -- the lines of a net that has a heaviest run, once the first page is asked for
-module _ (s marks : List ℕ) (n b : ℕ) (e : Entry) {rows : List ℕ} {written left : ℕ} (a : Accepts s (Accepted n b))
+module _ (s marks : List ℕ) (n b : ℕ) (e : Entry) {rows : List ℕ} {written left : ℕ} (a : Accepts s (acceptance n b))
     (f : marks ≡ all_free n) (p : HeaviestOf s marks (between e))
     (q : Asked s marks e.weight 0 0 rows written left) where
   listed : Listing (Weighing s n b e) q.page.page.rows
@@ -100,7 +98,7 @@ pub marks_free : {branches : List ℕ} {n m : ℕ} → branches ≡ replicate 40
     → take m branches ≡ all_free n
 marks_free {n = n} e h k = rw (e, k) (free_part (n - 1) 4095 (omega arith))
 
-pub ready_free : {s marks rows : List ℕ} {n b : ℕ} → Accepts s (Accepted n b) → marks ≡ all_free n → 16 ≤ length rows
+pub ready_free : {s marks rows : List ℕ} {n b : ℕ} → Accepts s (acceptance n b) → marks ≡ all_free n → 16 ≤ length rows
     → ListingReady s marks rows
 ready_free {s} {n = n} {b = b} a e h =
     let t = admitted s n b a in
@@ -115,7 +113,7 @@ bits_say {b} z e f = let g = to_z-of_z w64 z f in ap (to_z w64) e ∙ ap (λ (y 
 
 -- the first two lines come next, and then those of the first page; the weight by its bits, as the code carries it
 module _ {s : List ℕ} (n b low high len bits : ℕ) (w : ℤ) {rows o out : List ℕ} {written left m : ℕ}
-    (a : Accepts s (Accepted n b)) (p : HeaviestOf s (all_free n) (between (entry low high len w)))
+    (a : Accepts s (acceptance n b)) (p : HeaviestOf s (all_free n) (between (entry low high len w)))
     (q : Asked s (all_free n) w 0 0 rows written left) (small : b < 18446744073709551616) (small-weight : SFits w64 w)
     (e : to_z w64 bits ≡ w) (put : Put o 0 (net_text n b ++ best_text (entry low high len (to_z w64 bits))) out m) where
   abbrev best : Entry
@@ -137,21 +135,19 @@ module _ {s : List ℕ} (n b low high len bits : ℕ) (w : ℤ) {rows o out : Li
       (record {
         n = m;
         place = 0;
-        more = true;
-        nodes = n;
-        floor = w;
-        total = written + left;
-        written = written;
-        left = left;
-        row = 0;
+        pairs = Some (record {
+          nodes = n;
+          floor = w;
+          total = written + left;
+          page = record { written = written; left = left };
+          row = 0;
+        });
       })
   lined_shown =
       let t = admitted s n b a in
       record {
         comes = comes_before follow whole put_best some;
-        last = λ g. absurd (true≢false g);
-        goes = λ _. record {
-          more = refl;
+        goes = record {
           accepted = rw (t.nodes, t.bound) at a;
           nodes = t.nodes;
           fits = small-weight;

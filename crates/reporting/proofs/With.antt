@@ -1,6 +1,7 @@
 -- The report of a table with a change set. There is one, by the law of every promise with a set. A set of 6 bytes
 -- changes nothing: the report of the table itself, both ways, since 1 to 6 are said of it the same. And from what
 -- `write_in` gave: a refusal's line is the whole of it, and so is the report of the table in the buffer.
+use Rattle.std.specs.Prelude.{Ok, Err}
 use Prim.Native.Nat.{ℕ}
 use mathlib.Core.Path.{◌≡◌, sym, ap, ◌∙◌}
 use mathlib.Core.List.{List, [], ◌++◌, append-nil}
@@ -8,10 +9,9 @@ use lib.ListN.{length, take}
 use Rattle.table.specs.Refuse.{Only, passed}
 use Rattle.table.specs.Refuse as unless
 use Rattle.table.specs.Header.{Header}
+use Rattle.table.specs.declared.Refusal.{Refusal}
 use Rattle.table.proofs.Accepted.{past_header, header_map}
-use Rattle.tree.specs.Accept.{acceptance_refusal}
-use Rattle.tree.specs.declared.Acceptance.{Acceptance}
-use Rattle.tree.specs.declared.Acceptance.TheVariants.{Accepted, Refused}
+use Rattle.tree.specs.Accept.{Acceptance, acceptance_refusal}
 use Rattle.tree.proofs.Begins.{accepted_headed}
 use Rattle.text.specs.work.Put.{Put}
 use Rattle.text.proofs.Puts.{put_front}
@@ -36,8 +36,8 @@ whole_with_only s c x y p q =
 -- a report says 1 to 6 of its table by itself: both ways
 module _ (s : List ℕ) where
   abbrev handed : Acceptance → List ℕ
-  handed (Accepted n b) = []
-  handed (Refused why) = refused_text why.number why.row why.ring
+  handed (Ok net) = []
+  handed (Err why) = refused_text why.number why.row why.ring
 
   said_twice : {t : List ℕ} → ReportOf s t → Header (List ℕ) (λ k r. refused_text k r 0) s (ReportOf s) t
   said_twice (report.refused p) =
@@ -65,13 +65,13 @@ module _ (s c : List ℕ) (f : Formed c) (six : length c ≡ 6) {t : List ℕ} w
   pub nothing_with : ReportOf s t → ReportWith s c t
   nothing_with p = none_with refused_text s c f six (said_twice s p)
 
--- From what `write_in` gave: k, and this buffer
+-- From what `write_in` gave, and this buffer
 module _ (s c buffer : List ℕ) where
-  pub line_with : {o out : List ℕ} {k n : ℕ} → (k ≡ 0 → ⊥) → WritesIn s c buffer k → Put o 0 (refused_text k 0 0) out n
-      → ReportWith s c (take n out)
-  line_with {k = k} z w p = rw (put_front p) (refused_with s c buffer refused_text k z w)
+  pub line_with : {o out : List ℕ} {n : ℕ} (why : Refusal) → WritesIn s c buffer (Err why)
+      → Put o 0 (refused_text why.number why.row 0) out n → ReportWith s c (take n out)
+  line_with why w p = rw (put_front p) (refused_with s c buffer refused_text why w)
 
-  pub whole_with : {gone : ℕ} → WritesIn s c buffer 0 → Rest (take (length s) buffer) gone [] → WholeWith s c gone
+  pub whole_with : {gone : ℕ} → WritesIn s c buffer (Ok tt) → Rest (take (length s) buffer) gone [] → WholeWith s c gone
   whole_with w r =
       record {
         text = r.before ++ [];

@@ -1,13 +1,11 @@
 -- The report of a table as text, all branches free; and how much of it has gone before.
 use Rattle.std.specs.Prelude.{ℕ, ◌-◌, ◌≤◌, ◌<◌, ◌≡◌, List, ◌++◌, length, replicate}
-use Rattle.tree.specs.Accept.{acceptance_refusal, Accepts}
-use Rattle.tree.specs.declared.Acceptance.TheVariants.{Accepted}
+use Rattle.tree.specs.Accept.{acceptance, acceptance_refusal, Accepts}
 use Rattle.marks.specs.Mark.{free}
 use Rattle.pages.specs.Listing.{Entry, Listing}
 use Rattle.pages.specs.Passes.{Passes}
 use Rattle.ground.specs.PathOf.{PathOf}
-use Rattle.heaviest.specs.Heaviest.{heaviest_refusal, HeaviestOf}
-use Rattle.heaviest.specs.declared.HeaviestAnswer.TheVariants.{Between}
+use Rattle.heaviest.specs.Heaviest.{between, heaviest_refusal, HeaviestOf}
 use Rattle.lines.specs.Lines.{refused_text, net_text, best_text, pairs_text, total_text}
 
 -- every branch of a net of n nodes is free
@@ -22,10 +20,10 @@ Weighing s n b e = Passes (PathOf s (all_free n) n) (λ l. l ≤ b) (λ w. w ≡
 -- heaviest run, every pair of that weight within the bound in pair order, and their number
 pub data ReportOf (s : List ℕ) : List ℕ → Type 0 where
   refused : {k r g : ℕ} → Accepts s (acceptance_refusal k r g) → ReportOf s (refused_text k r g)
-  none : {n b k r g : ℕ} → Accepts s (Accepted n b) → HeaviestOf s (all_free n) (heaviest_refusal k r g)
+  none : {n b k r g : ℕ} → Accepts s (acceptance n b) → HeaviestOf s (all_free n) (heaviest_refusal k r g)
       → ReportOf s (refused_text k r g)
-  lines : {n b : ℕ} {e : Entry} {l : List Entry} → Accepts s (Accepted n b)
-      → HeaviestOf s (all_free n) (Between e.low e.high e.length e.weight) → Listing (Weighing s n b e) l
+  lines : {n b : ℕ} {e : Entry} {l : List Entry} → Accepts s (acceptance n b)
+      → HeaviestOf s (all_free n) (between e.low e.high e.length e.weight) → Listing (Weighing s n b e) l
       → ReportOf s ((net_text n b ++ best_text e) ++ (pairs_text l ++ total_text (length l)))
 
 -- of the report of s so many bytes went before, and these are still to come; none to come: it has ended. (No report is

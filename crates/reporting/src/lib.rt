@@ -6,25 +6,30 @@
 mod begun;
 mod listed;
 
-ghost use Rattle.std.specs.Prelude.{◌+◌, ◌≡◌, false, replicate};
+ghost use Rattle.std.specs.Prelude.{◌+◌, ◌≡◌, None, replicate};
 ghost use Rattle.reporting.specs.work.Pieces.{ReportLent, Shown};
 
 pub use begun::first;
+use paging::Rows;
 
 // A piece: its n bytes come next, 0 where the report has ended. The rest is how to go on, and nobody else's.
 #[derive(Drop)]
 pub struct Piece {
     pub n: usize,
-    // how many bytes went before it, and whether anything follows
+    // how many bytes went before it
     place: usize,
-    more: bool,
-    // what the listing is asked with, and how many pairs there are
+    // how the pairs' lines stand, which follow; None where nothing does
+    pairs: Option<Pairs>,
+}
+
+// What the listing is asked with, and how many pairs there are; the page that was last asked for, and how many of its
+// rows' lines are out.
+#[derive(Clone, Copy)]
+struct Pairs {
     nodes: u16,
     floor: i64,
     total: usize,
-    // what the page has that was last asked for, what it leaves over, and how many of its rows' lines are out
-    written: usize,
-    left: usize,
+    page: Rows,
     row: usize,
 }
 
@@ -37,18 +42,12 @@ pub fn free_branches() -> [u16; 4095]
 
 // A piece that nothing follows.
 fn last(n: usize, place: usize) -> Piece
-    ensures { (result.n ≡ n) × (result.place ≡ place) × (result.more ≡ false) }
+    ensures { (result.n ≡ n) × (result.place ≡ place) × (result.pairs ≡ None) }
 {
     Piece {
         n,
         place,
-        more: false,
-        nodes: 0,
-        floor: 0,
-        total: 0,
-        written: 0,
-        left: 0,
-        row: 0,
+        pairs: None,
     }
 }
 
@@ -59,15 +58,15 @@ pub fn next(s: &[u8], branches: &[u16], rows: &mut [u8], out: &mut [u8], p: Piec
         × (result.place ≡ p.place + p.n) }
 {
     let at = p.place + p.n;
-    if p.more {
-        if p.row < p.written {
-            return listed::some_rows(s, out, rows, p, at);
-        }
-        if p.left > 0 {
-            return listed::next_page(s, branches, rows, out, p, at);
-        }
-        let n = lines::total(out, p.total as u64);
-        return last(n, at);
+    let Some(pairs) = p.pairs else {
+        return last(0, at);
+    };
+    if pairs.row < pairs.page.written {
+        return listed::some_rows(s, out, rows, pairs, at);
     }
-    last(0, at)
+    if pairs.page.left > 0 {
+        return listed::next_page(s, branches, rows, out, pairs, at);
+    }
+    let n = lines::total(out, pairs.total as u64);
+    last(n, at)
 }

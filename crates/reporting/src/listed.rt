@@ -1,67 +1,38 @@
 // Pieces of the pairs' lines: those of the rows of the page that was last asked for, and then of the page after it.
-ghost use Rattle.std.specs.Prelude.{◌+◌, ◌≤◌, ◌<◌, ◌≡◌, length};
+ghost use Rattle.std.specs.Prelude.{◌≤◌, ◌<◌, ◌≡◌, length};
 ghost use Rattle.reporting.specs.work.Asked.{ListingReady, Asked};
 ghost use Rattle.reporting.specs.work.Pieces.{ReportLent, Going, Shown};
 
-use crate::Piece;
+use crate::{Pairs, Piece};
 use numbers::two;
-use paging::Listed;
+use paging::Rows;
 
-// What a page has, and what it leaves over.
-#[derive(Drop)]
-pub(crate) struct Count {
-    pub(crate) written: usize,
-    pub(crate) left: usize,
-}
+// As many rows' lines as one piece has at the most.
+const LINES: usize = 600;
 
 // A page of the pairs after (low, high): of an accepted table, with a mark for each branch and room for a row, it is
 // not refused.
-pub(crate) fn ask(
-    s: &[u8],
-    marks: &[u16],
-    floor: i64,
-    low: u16,
-    high: u16,
-    rows: &mut [u8],
-) -> Count
+pub(crate) fn ask(s: &[u8], marks: &[u16], floor: i64, low: u16, high: u16, rows: &mut [u8]) -> Rows
     requires { ListingReady s.now marks.now rows.old }
     ensures { Asked s.now marks.now floor low high rows.new result.written
         result.left }
 {
-    let o = listing::listing(s, marks, floor, low, high, rows);
-    match o {
-        Listed::Refused(_) => Count {
-            written: 0,
-            left: 0,
-        },
-        Listed::Rows { written, left } => Count { written, left },
-    }
+    listing::listing(s, marks, floor, low, high, rows).unwrap()
 }
 
-// The row before which a piece ends that begins at row i: 600 on, or the end.
-fn stop(i: usize, count: usize) -> usize
-    requires { i < count }
-    ensures { (i < result) × (result ≤ count) × (result ≤ i + 600) }
-{
-    if count - i < 600 {
-        return count;
-    }
-    i + 600
-}
-
-// The lines of exactly the page's next rows, 600 at the most.
-pub(crate) fn some_rows(s: &[u8], out: &mut [u8], rows: &[u8], p: Piece, at: usize) -> Piece
-    requires { (65536 ≤ length out.old) × (p.row < p.written) × Going s.now rows.now p at }
+// The lines of exactly the page's next rows, as many as a piece has.
+pub(crate) fn some_rows(s: &[u8], out: &mut [u8], rows: &[u8], pairs: Pairs, at: usize) -> Piece
+    requires { (65536 ≤ length out.old) × (pairs.row < pairs.page.written) × Going s.now rows.now pairs at }
     ensures { Shown s.now rows.now out.new result × (result.place ≡ at) }
 {
-    let i = p.row;
-    let e = stop(i, p.written);
+    let i = pairs.row;
+    let e = i + (pairs.page.written - i).min(LINES);
     let n = lines::pairs(out, rows, i, e);
-    let mut q = p;
-    q.n = n;
-    q.place = at;
-    q.row = e;
-    q
+    Piece {
+        n,
+        place: at,
+        pairs: Some(Pairs { row: e, ..pairs }),
+    }
 }
 
 // The page after the last row of this one, and the lines of its first rows.
@@ -70,24 +41,24 @@ pub(crate) fn next_page(
     branches: &[u16],
     rows: &mut [u8],
     out: &mut [u8],
-    p: Piece,
+    pairs: Pairs,
     at: usize,
 ) -> Piece
     requires { ReportLent branches.now rows.old out.old
-        × (p.written ≤ p.row)
-        × (0 < p.left)
-        × Going s.now rows.old p at }
+        × (pairs.page.written ≤ pairs.row)
+        × (0 < pairs.page.left)
+        × Going s.now rows.old pairs at }
     ensures { Shown s.now rows.new out.new result × (result.place ≡ at) }
 {
-    let m = (p.nodes as usize) - 1;
-    let i = 16 * (p.written - 1);
+    let m = usize::from(pairs.nodes) - 1;
+    let i = 16 * (pairs.page.written - 1);
     let low = two(rows, i) as u16;
     let high = two(rows, i + 2) as u16;
-    let floor = p.floor;
-    let k = ask(s, &branches[..m], floor, low, high, rows);
-    let mut q = p;
-    q.written = k.written;
-    q.left = k.left;
-    q.row = 0;
-    some_rows(s, out, rows, q, at)
+    let page = ask(s, &branches[..m], pairs.floor, low, high, rows);
+    let next = Pairs {
+        page,
+        row: 0,
+        ..pairs
+    };
+    some_rows(s, out, rows, next, at)
 }

@@ -9,38 +9,20 @@ pub overflow_add-at : goal.overflow_add-at
 overflow_add-at c = omega (arith, shown_fits c.requires.1)
 
 pub some_rows-requires : goal.some_rows-requires
-some_rows-requires c =
-    let if1-taken = c.if-p.true in
-    let pre = c.requires in
-    (pre.0.text, c.if-p-2.true, pre.1.goes if1-taken)
-
-pub returns-then-p-2 : goal.returns-then-p-2
-returns-then-p-2 c = c.some_rows.ensures
+some_rows-requires c = (c.requires.0.text, omega arith, rw c.in-Some.is at c.requires.1.goes)
 
 pub next_page-requires : goal.next_page-requires
-next_page-requires c =
-    let if2-left = c.if-p-2.false in
-    let if1-taken = c.if-p.true in
-    let pre = c.requires in
-    (pre.0, omega (arith, if2-left), omega arith, pre.1.goes if1-taken)
+next_page-requires c = (c.requires.0, omega arith, omega arith, rw c.in-Some.is at c.requires.1.goes)
 
 pub total-n-requires : goal.total-n-requires
-total-n-requires c =
-    let pre = c.requires in
-    omega (arith, pre.0.text)
+total-n-requires c = omega (arith, c.requires.0.text)
 
-pub returns-then-p : goal.returns-then-p
-returns-then-p c =
-    let total-ensures = c.total-n.ensures in
-    let if2-left = c.if-p-2.false in
-    let if1-taken = c.if-p.true in
-    let pre = c.requires in (
-      put_shown c.last.ensures
-          (going_last (pre.1.goes if1-taken) (omega (arith, if2-left)) (omega arith)) total-ensures.0,
-      c.last.ensures.1,
-    )
+pub returns-in_default : goal.returns-in_default
+returns-in_default c = (none_shown c.last.ensures (rw c.in_default.is at c.requires.1.goes), c.last.ensures.1)
 
 pub returns : goal.returns
-returns c =
-    let pre = c.requires in
-    (none_shown c.last-2.ensures (pre.1.last c.if-p.false), c.last-2.ensures.1)
+returns c = (
+  put_shown c.last-2.ensures (going_last (rw c.in-Some.is at c.requires.1.goes) (omega arith) (omega arith))
+      c.total-n.ensures.0,
+  c.last-2.ensures.1,
+)

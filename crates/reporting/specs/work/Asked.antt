@@ -1,8 +1,7 @@
 -- Working statements: pages of the listing, asked for one after the other.
 use Rattle.std.specs.Prelude.{ℕ, ◌+◌, ◌-◌, ◌*◌, ◌≤◌, ◌≡◌, List, ℤ, length}
 use Rattle.table.specs.Header.{nodes_of, bound_of}
-use Rattle.tree.specs.Accept.{Accepts}
-use Rattle.tree.specs.declared.Acceptance.TheVariants.{Accepted}
+use Rattle.tree.specs.Accept.{acceptance, Accepts}
 use Rattle.net.specs.work.Net.{Net}
 use Rattle.pages.specs.Listing.{Entry}
 use Rattle.pages.specs.Passes.{Qualifies}
@@ -11,7 +10,7 @@ use Rattle.ground.specs.PathOf.{PathOf}
 
 -- a call of the listing is not refused: an accepted table, a mark for each branch, room for a row
 pub record ListingReady (s marks rows : List ℕ) : Type 0 where
-  pub accepted : Accepts s (Accepted (nodes_of s) (bound_of s))
+  pub accepted : Accepts s (acceptance (nodes_of s) (bound_of s))
   pub marked : length marks ≡ nodes_of s - 1
   pub room : 16 ≤ length rows
 

@@ -1,10 +1,9 @@
 -- The report in pieces: each is what comes next, in the front of lent bytes.
-use Rattle.std.specs.Prelude.{ℕ, ◌+◌, ◌-◌, ◌≤◌, ◌≡◌, true, false, List, [], ◌++◌, ℤ, length, take, replicate}
+use Rattle.std.specs.Prelude.{ℕ, ◌+◌, ◌-◌, ◌≤◌, ◌≡◌, Option, Some, None, List, [], ◌++◌, ℤ, length, take, replicate}
 use Rattle.std.specs.Int.{w64}
 use Rattle.std.proofs.Common.{SFits}
 use Rattle.table.specs.Header.{nodes_of, bound_of}
-use Rattle.tree.specs.Accept.{Accepts}
-use Rattle.tree.specs.declared.Acceptance.TheVariants.{Accepted}
+use Rattle.tree.specs.Accept.{acceptance, Accepts}
 use Rattle.marks.specs.Mark.{free}
 use Rattle.pages.specs.Listing.{Entry}
 use Rattle.pages.specs.Bytes.{entries}
@@ -12,6 +11,7 @@ use Rattle.lines.specs.Lines.{pairs_text, total_text}
 use Rattle.reporting.specs.Report.{all_free, Rest, Next}
 use Rattle.reporting.specs.work.Asked.{Asked}
 use Rattle.reporting.specs.declared.Piece.{Piece}
+use Rattle.reporting.specs.declared.Pairs.{Pairs}
 
 -- what a caller lends: as many free branches as a net can have, room for a row, and room for text
 pub record ReportLent (branches rows out : List ℕ) : Type 0 where
@@ -39,15 +39,18 @@ pub record Paging (s marks : List ℕ) (floor : ℤ) (total : ℕ) (rows : List 
       → Rest s at (pairs_text (entries rows row (written - row)) ++ (pairs_text later ++ total_text total))
 
 -- what is needed to go on from a place: the table is accepted, and the page is one of the listing that the report lists
-pub record Going (s rows : List ℕ) (p : Piece) (at : ℕ) : Type 0 where
-  pub more : p.more ≡ true
-  pub accepted : Accepts s (Accepted (nodes_of s) (bound_of s))
+pub record Going (s rows : List ℕ) (p : Pairs) (at : ℕ) : Type 0 where
+  pub accepted : Accepts s (acceptance (nodes_of s) (bound_of s))
   pub nodes : p.nodes ≡ nodes_of s
   pub fits : SFits w64 p.floor
-  pub paging : Paging s (all_free p.nodes) p.floor p.total rows p.written p.left p.row at
+  pub paging : Paging s (all_free p.nodes) p.floor p.total rows p.page.written p.page.left p.row at
 
--- a piece, and what follows it: nothing, or what is left of a page and of the listing, and the last line
+-- what follows: what is left of a page and of the listing, and the last line; or nothing
+abbrev pub Follows : List ℕ → List ℕ → Option Pairs → ℕ → Type 0
+Follows s rows (Some p) at = Going s rows p at
+Follows s rows None at = Rest s at []
+
+-- a piece, and what follows it
 pub record Shown (s rows out : List ℕ) (p : Piece) : Type 0 where
   pub comes : Comes s out p.n p.place
-  pub last : p.more ≡ false → Rest s (p.place + p.n) []
-  pub goes : p.more ≡ true → Going s rows p (p.place + p.n)
+  pub goes : Follows s rows p.pairs (p.place + p.n)

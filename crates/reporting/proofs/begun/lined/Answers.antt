@@ -4,30 +4,30 @@ use mathlib.Core.Path.{refl}
 use native.Mathlib.Omega.{arith}
 use mir.Syntax.{w64}
 use mir.ValLaws.{to_z-of_z}
+use Rattle.ground.proofs.Bounds.{passes_fits}
+use Rattle.heaviest.proofs.Demand2.{found_best}
 use Rattle.reporting.proofs.Whole.{ready_free, bits_say, lined_shown}
 use Rattle.reporting.proofs.begun.lined.Goals as goal
 
 pub ask-page-requires : goal.ask-page-requires
-ask-page-requires c =
-    let pre = c.requires in
-    ready_free pre.0 pre.1 pre.3
+ask-page-requires c = ready_free c.requires.0 c.requires.1 c.requires.3
 
-pub overflow_add-result : goal.overflow_add-result
-overflow_add-result c = omega (arith, c.ask-page.ensures.few)
+pub overflow_add-pairs : goal.overflow_add-pairs
+overflow_add-pairs c = omega (arith, c.ask-page.ensures.few)
 
 pub returns : goal.returns
 returns c =
-    let top-ensures = c.top-n.ensures in
-    let bits-of-ensures = c.bits_of-bits.ensures in
-    let bits-of-result = c.bits_of-bits.result in
-    let ask-ensures = c.ask-page.ensures in
-    let args = c.args in
-    let fits = c.ranges in
-    let pre = c.requires in (
-      rw (to_z-of_z w64 args.weight fits.weight)
-          (lined_shown args.nodes args.bound args.low args.high args.len bits-of-result args.weight
-          pre.0 (rw pre.1 at pre.2) (rw (pre.1, to_z-of_z w64 args.weight fits.weight) at ask-ensures)
-          (omega (arith, fits.bound)) fits.weight (bits_say args.weight bits-of-ensures fits.weight)
-          top-ensures.0),
+    let best = c.args.best in
+    let pre = c.requires in
+    let ask = c.ask-page.ensures in
+    let fits = (passes_fits _ _ ask.net (found_best _ _ pre.2).one).weight in
+    let same = to_z-of_z w64 best.weight fits in (
+      rw same
+          (lined_shown c.args.net.nodes c.args.net.bound best.low best.high best.length c.bits_of-bits.result
+          best.weight pre.0 (rw pre.1 at pre.2) (rw (pre.1, same) at ask)
+          (omega (arith, c.from-2.ensures, c.from-2.type_inv)) fits
+          (bits_say best.weight c.bits_of-bits.ensures fits)
+          (rw (c.from.ensures, c.from-2.ensures, c.from-3.ensures, c.from-4.ensures, c.from-5.ensures)
+          at c.top-n.ensures.0)),
       refl,
     )

@@ -4,6 +4,4 @@ use Rattle.reporting.proofs.begun.refuse.Goals as goal
 
 pub returns : goal.returns
 returns c =
-    let refused-ensures = c.refused-n.ensures in
-    let pre = c.requires in
-    (put_shown c.last.ensures pre.1 refused-ensures.0, c.last.ensures.1)
+    (put_shown c.last.ensures c.requires.1 (rw c.from.ensures at c.refused-n.ensures.0), c.last.ensures.1)

@@ -4,16 +4,10 @@ use mir.ValLaws.{to_z-of_z}
 use Rattle.reporting.proofs.Paging.{ready_taken, ready_asked}
 use Rattle.reporting.proofs.listed.ask.Goals as goal
 
-pub returns-in-Refused : goal.returns-in-Refused
-returns-in-Refused c =
-    let listing-ensures = c.listing-o.ensures in
-    let pre = c.requires in
-    absurd (ready_taken pre (rw c.in-Refused.is at listing-ensures))
+pub unwrap-requires : goal.unwrap-requires
+unwrap-requires c = ready_taken c.requires _ c.listing.ensures
 
-pub returns-in-Rows : goal.returns-in-Rows
-returns-in-Rows c =
-    let listing-ensures = c.listing-o.ensures in
-    let args = c.args in
-    let fits = c.ranges in
-    let pre = c.requires in
-    rw (to_z-of_z w64 args.floor fits.floor) at (ready_asked pre (rw c.in-Rows.is at listing-ensures))
+pub returns : goal.returns
+returns c =
+    rw (to_z-of_z w64 c.args.floor c.ranges.floor) at
+    (ready_asked c.requires (rw c.unwrap.ensures at c.listing.ensures))

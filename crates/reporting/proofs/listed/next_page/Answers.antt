@@ -1,6 +1,6 @@
 -- `next_page`: what follows the page's last row is what the next begins with, and that has a row.
 use Prim.Native.Nat.{ℕ}
-use mathlib.Core.Path.{refl, ap}
+use mathlib.Core.Path.{ap}
 use native.Mathlib.Omega.{arith}
 use lib.ListN.{length, length-take, length-replicate}
 use mir.Syntax.{w64}
@@ -40,21 +40,18 @@ slice_bounds-ask-end c =
     let pre = c.requires in
     simp length-take (omega (arith, ap length pre.0.free, length-replicate {A = ℕ} 4095 0, going_few pre.3))
 
-pub ask-k-requires : goal.ask-k-requires
-ask-k-requires c =
+pub ask-page-requires : goal.ask-page-requires
+ask-page-requires c =
     let pre = c.requires in
-    going_ready pre.3 (marks_free pre.0.free (going_few pre.3) refl) pre.0.page
+    going_ready pre.3 (marks_free pre.0.free (going_few pre.3) (omega (arith, c.from-m.ensures))) pre.0.page
 
 pub some_rows-requires : goal.some_rows-requires
 some_rows-requires c =
-    let ask-ensures = c.ask-k.ensures in
-    let two2-ensures = c.two-high.ensures in
-    let two-ensures = c.two-low.ensures in
-    let args = c.args in
-    let pre = c.requires in (
-      omega (arith, pre.0.text),
-      page_some pre.3 pre.1 pre.2 (marks_free pre.0.free (going_few pre.3) refl) two-ensures.0
-          two2-ensures.0 (rw (to_z-of_z w64 args.p.floor pre.3.fits) at ask-ensures),
-      page_going pre.3 pre.1 pre.2 (marks_free pre.0.free (going_few pre.3) refl) two-ensures.0
-          two2-ensures.0 (rw (to_z-of_z w64 args.p.floor pre.3.fits) at ask-ensures),
+    let pre = c.requires in
+    let same = to_z-of_z w64 c.args.pairs.floor pre.3.fits in
+    let free = marks_free pre.0.free (going_few pre.3) (omega (arith, c.from-m.ensures)) in
+    let asked = rw same at c.ask-page.ensures in (
+      pre.0.text,
+      page_some pre.3 pre.1 pre.2 free c.two-low.ensures.0 c.two-high.ensures.0 asked,
+      rw same (page_going pre.3 pre.1 pre.2 free c.two-low.ensures.0 c.two-high.ensures.0 asked),
     )
