@@ -3,7 +3,7 @@ ghost use Rattle.std.specs.Prelude.{◌<◌};
 ghost use Rattle.table.specs.work.Lift.{sum_end};
 ghost use Rattle.figures.specs.work.Figures.{Joins, Crossing};
 
-use crate::least::least;
+use crate::least::Binned;
 
 // A path's length, and its weight lifted by 2^33.
 #[derive(Drop)]
@@ -14,20 +14,18 @@ pub struct Figure {
 
 // Of two spots, i before j.
 pub(crate) fn across(
-    above: &[u16; 4096],
-    tail: &[u16; 4096],
-    front: &[u16; 4096],
-    gap: &[u16; 4096],
+    parents: &Binned<'_>,
     far: &[u64; 4096],
     heavy: &[u64; 4096],
     i: usize,
     j: usize,
 ) -> Figure
-    requires { Crossing above.now tail.now front.now gap.now far.now heavy.now i j }
-    ensures { Joins above.now far.now heavy.now i j result.length result.weight
+    requires { Crossing parents.now.above.now parents.now.tail.now parents.now.front.now parents.now.gap.now
+        far.now heavy.now i j }
+    ensures { Joins parents.now.above.now far.now heavy.now i j result.length result.weight
         × (result.weight < sum_end) }
 {
-    let m = least(above, tail, front, gap, i, j);
+    let m = parents.least(i, j);
     let length = far[i] + far[j] - 2 * far[m];
     let weight = heavy[i] + heavy[j] + table::SUM_LIFT - 2 * heavy[m];
     Figure { length, weight }

@@ -10,7 +10,7 @@ ghost use Rattle.figures.specs.work.Figures.{Figures, FigureAsked};
 
 use crate::across::across;
 use crate::bins::{fronts, gaps, tails};
-use arrays::wide;
+use crate::least::Binned;
 
 mod across;
 mod bins;
@@ -50,7 +50,13 @@ pub fn figure(
     ensures { Figures spot.now above.now far.now heavy.now a b
         result.length result.weight × (result.weight < sum_end) }
 {
-    let x = wide(spot[a]);
-    let y = wide(spot[b]);
-    across(above, tail, front, gap, far, heavy, x.min(y), x.max(y))
+    let x = usize::from(spot[a]);
+    let y = usize::from(spot[b]);
+    let parents = Binned {
+        above,
+        tail,
+        front,
+        gap,
+    };
+    across(&parents, far, heavy, x.min(y), x.max(y))
 }
