@@ -1,5 +1,5 @@
 -- What the functions of laid.rt and lib.rt promise each other: spots, and arrays by spot.
-use Rattle.std.specs.Prelude.{ℕ, ◌+◌, ◌≤◌, ◌<◌, ◌≡◌, ◌≢◌, List, length}
+use Rattle.std.specs.Prelude.{ℕ, ◌+◌, ◌≤◌, ◌<◌, ◌≡◌, ◌≢◌, List, length, get_or}
 use Rattle.arrays.specs.At.{at}
 
 -- n nodes, each with a spot of its own
@@ -9,11 +9,15 @@ pub record Spots (n : ℕ) (spot : List ℕ) : Type 0 where
   pub within : (v : ℕ) → v < n → at spot v < n
   pub one : (x y : ℕ) → x < n → y < n → at spot x ≡ at spot y → x ≡ y
 
--- the nodes from lo to i have put what f gives for them at their spots, and elsewhere is 0
-pub record Laid (lo i : ℕ) (spot : List ℕ) (f : ℕ → ℕ) (to : List ℕ) : Type 0 where
+-- the nodes from lo to i have put what f gives for them at their spots, and elsewhere is none
+pub record LaidOf {A : Type 0} (none : A) (lo i : ℕ) (spot : List ℕ) (f : ℕ → A) (to : List A) : Type 0 where
   pub long : length to ≡ 4096
-  pub each : (v : ℕ) → lo ≤ v → v < i → at to (at spot v) ≡ f v
-  pub rest : (s : ℕ) → s < 4096 → ((v : ℕ) → lo ≤ v → v < i → at spot v ≢ s) → at to s ≡ 0
+  pub each : (v : ℕ) → lo ≤ v → v < i → get_or to (at spot v) none ≡ f v
+  pub rest : (s : ℕ) → s < 4096 → ((v : ℕ) → lo ≤ v → v < i → at spot v ≢ s) → get_or to s none ≡ none
+
+-- the same of numbers, and elsewhere is 0
+abbrev pub Laid : ℕ → ℕ → List ℕ → (ℕ → ℕ) → List ℕ → Type 0
+Laid = LaidOf 0
 
 -- what is asked to lay a net out: spots, with a span in front of each, and heads and parents that are nodes
 pub record Layable (n : ℕ) (parent head size spot : List ℕ) : Type 0 where
