@@ -2,8 +2,6 @@
 ghost use Rattle.std.specs.Prelude.{ℕ, ◌<◌, List};
 ghost use Rattle.figures.specs.work.Bins.{Tails, Fronts, Gaps, TailTurn, FrontTurn, GapTurn};
 
-use arrays::fill;
-
 // More than every spot: the least of no places, so that the lesser of two takes no test of whether there are any.
 pub(crate) const NONE: u16 = u16::MAX;
 
@@ -19,7 +17,7 @@ fn tail_behind(tail: &[u16; 4096], i: usize) -> u16
 pub(crate) fn tails(above: &[u16; 4096], tail: &mut [u16; 4096])
     ensures { Tails above.now 0 tail.new }
 {
-    fill(tail, 0);
+    tail.fill(0);
     for i in (0..4096).rev() {
         tail[i] = above[i].min(tail_behind(tail, i));
     }
@@ -37,7 +35,7 @@ fn front_before(front: &[u16; 4096], i: usize) -> u16
 pub(crate) fn fronts(above: &[u16; 4096], front: &mut [u16; 4096])
     ensures { Fronts above.now 4096 front.new }
 {
-    fill(front, 0);
+    front.fill(0);
     for i in 0..4096 {
         front[i] = front_before(front, i).min(above[i]);
     }
@@ -58,7 +56,7 @@ fn gap_between(gap: &[u16; 4096], tail: &[u16; 4096], i: usize) -> u16
 pub(crate) fn gaps(tail: &[u16; 4096], gap: &mut [u16; 4096])
     ensures { (above : List ℕ) → Tails above 0 tail.now → Gaps above 4096 gap.new }
 {
-    fill(gap, 0);
+    gap.fill(0);
     for i in 0..4096 {
         gap[i] = gap_between(gap, tail, i);
     }

@@ -38,8 +38,8 @@ fn branches(
     ensures { Branches s.now marks.now half.now n bl.new
         bw.new }
 {
-    arrays::fill_long(bl, 0);
-    arrays::fill_long(bw, 0);
+    bl.fill(0);
+    bw.fill(0);
     for x in 1..n {
         let r = usize::from(half[x]) / 2;
         bl[x] = u64::from(table::row_at(s, r).length);

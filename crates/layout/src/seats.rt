@@ -6,8 +6,6 @@ ghost use Rattle.reach.specs.work.Grown.{Grown};
 ghost use Rattle.spines.specs.work.Parents.{SizesAll};
 ghost use Rattle.layout.specs.work.Seats.{SeatRoom, Seated, Seating};
 
-use arrays::fill;
-
 // A node's spot, and its parent's next free spot.
 #[derive(Drop)]
 struct Seat {
@@ -57,8 +55,8 @@ pub(crate) fn seats(
     ensures { Seating n parent.now place.now head.now size.now n
         spot.new next.new }
 {
-    fill(spot, 0);
-    fill(next, 1);
+    spot.fill(0);
+    next.fill(1);
     for i in 1..n {
         let v = usize::from(order[i]);
         let p = usize::from(parent[v]);

@@ -22,7 +22,7 @@ pub(crate) fn leaves_of(
     requires { Ordered n parent.now order.now }
     ensures { LeavesAll n parent.now leaves.new }
 {
-    arrays::fill(leaves, 0);
+    leaves.fill(0);
     for i in (1..n).rev() {
         let v = usize::from(order[i]);
         let p = usize::from(parent[v]);
@@ -52,7 +52,7 @@ pub(crate) fn mains_of(parent: &[u16; 4096], leaves: &[u16; 4096], n: usize, mai
     requires { Parented n parent.now × LeavesAll n parent.now leaves.now }
     ensures { MainsAll n parent.now main.new }
 {
-    arrays::fill(main, 4096);
+    main.fill(4096);
     for c in 1..n {
         let p = usize::from(parent[c]);
         let q = usize::from(main[p]);
@@ -79,7 +79,7 @@ pub(crate) fn follow_mains(
     requires { Ordered n parent.now order.now × MainsAll n parent.now main.now }
     ensures { HeadsAll n parent.now head.new }
 {
-    arrays::fill(head, 0);
+    head.fill(0);
     for i in 1..n {
         let v = usize::from(order[i]);
         let p = usize::from(parent[v]);

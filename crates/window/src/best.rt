@@ -118,7 +118,7 @@ pub(crate) fn best(
         → Best first counts g hits.new result)
         × ArraysLent above.new key.new wt.new }
 {
-    arrays::fill(hits, 1);
+    hits.fill(1);
     let mut b = Found {
         low: 0,
         high: 0,

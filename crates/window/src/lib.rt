@@ -87,7 +87,7 @@ fn search(s: &[u8], marks: &[u16], nodes: u16, asked: Asked, walk: &mut Walk) ->
     let mut wt: [u64; 4096] = [0; 4096];
     let mut hits: [u16; 4096] = [0; 4096];
     grounded(s, marks, nodes, walk, &mut bl, &mut bw);
-    arrays::fill_long(&mut bl, 1);
+    bl.fill(1);
     let n = usize::from(nodes);
     let counts = asked.counts();
     let sums = asked.sums();

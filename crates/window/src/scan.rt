@@ -111,12 +111,11 @@ pub(crate) fn page(
 {
     let mut bl: [u64; 4096] = [0; 4096];
     let mut bw: [u64; 4096] = [0; 4096];
-    let mut ones: [u64; 4096] = [0; 4096];
+    let ones: [u64; 4096] = [1; 4096];
     let mut key: [u64; 4096] = [0; 4096];
     let mut wt: [u64; 4096] = [0; 4096];
     let mut hits: [u16; 4096] = [0; 4096];
     grounded(s, marks, nodes, walk, &mut bl, &mut bw);
-    arrays::fill_long(&mut ones, 1);
     let n = usize::from(nodes);
     let from = usize::from(low);
     let counts = asked.counts();

@@ -1,13 +1,14 @@
 use Prim.Native.Nat.{◌/◌}
 use mathlib.Core.Path.{ap, ◌∙◌}
 use native.Mathlib.Omega.{arith}
+use Rattle.arrays.proofs.Fills.{filled_by}
 use Rattle.net.proofs.Net.{reads_length}
 use Rattle.marks.proofs.Weights.{under_lifts, under_small}
 use Rattle.ground.proofs.Branching.{branches_none, branches_more, branches_all, row_in}
 use Rattle.ground.proofs.branches.Goals as goal
 
 pub loop-x-init : goal.loop-x-init
-loop-x-init c = branches_none c.fill_long.ensures c.fill_long-2.ensures
+loop-x-init c = branches_none (filled_by c.told-bl c.fill.ensures.after) (filled_by c.told-bw c.fill-2.ensures.after)
 
 pub loop-x-preserved : goal.loop-x-preserved
 loop-x-preserved c =

@@ -1,5 +1,6 @@
 use Prim.Native.Nat.{◌-◌, ◌<◌}
 use native.Mathlib.Omega.{arith}
+use Rattle.arrays.proofs.Fills.{filled_by}
 use Rattle.reach.proofs.Grown.{read_node, read_parent}
 use Rattle.spines.proofs.SizeSweep.{sizes_none, sizes_next, sizes_all, sizes_fit, size_fits, root_size}
 use Rattle.spines.proofs.sizes_of.Goals.{After-from-p, After-from-v}
@@ -21,7 +22,7 @@ parent_in c =
 pub loop-i-init : goal.loop-i-init
 loop-i-init c =
     let k = c.requires in
-    (k, sizes_none k.holds _ c.fill.ensures, k.holds.some.0, omega arith)
+    (k, sizes_none k.holds _ (filled_by c.told-size c.fill.ensures.after), k.holds.some.0, omega arith)
 
 pub offset_bounds-parent-v : goal.offset_bounds-parent-v
 offset_bounds-parent-v c = omega (arith, node_in c)
@@ -37,13 +38,13 @@ bounds-size-v c = omega (arith, node_in (goal.at.bounds-size-v c).After-from-v)
 
 pub overflow_add-w : goal.overflow_add-w
 overflow_add-w c =
-    let wide-ensures = c.from-v.ensures in
+    let from-ensures = c.from-v.ensures in
     let loop-test-taken = c.loop-i-test.true in
     let h = c.loop-i.invariant in
     omega (
       arith,
       h.0.holds.some.1,
-      size_fits h.0.holds _ _ _ _ loop-test-taken h.3 wide-ensures c.from-p.ensures h.1,
+      size_fits h.0.holds _ _ _ _ loop-test-taken h.3 from-ensures c.from-p.ensures h.1,
     )
 
 pub offset_bounds-size-p : goal.offset_bounds-size-p
@@ -54,13 +55,13 @@ bounds-size-p c = omega (arith, parent_in (goal.at.bounds-size-p c).After-from-p
 
 pub overflow_add-y : goal.overflow_add-y
 overflow_add-y c =
-    let wide-ensures = c.from-v.ensures in
+    let from-ensures = c.from-v.ensures in
     let loop-test-taken = c.loop-i-test.true in
     let h = c.loop-i.invariant in
     omega (
       arith,
       h.0.holds.some.1,
-      sizes_fit h.0.holds _ _ _ _ loop-test-taken h.3 wide-ensures c.from-p.ensures
+      sizes_fit h.0.holds _ _ _ _ loop-test-taken h.3 from-ensures c.from-p.ensures
           h.1,
     )
 
@@ -78,11 +79,11 @@ bounds-size-p-in-loop-i c = omega (arith, parent_in (goal.at.bounds-size-p-in-lo
 
 pub loop-i-preserved : goal.loop-i-preserved
 loop-i-preserved c =
-    let wide-ensures = c.from-v.ensures in
+    let from-ensures = c.from-v.ensures in
     let loop-test-taken = c.loop-i-test.true in
     let h = c.loop-i.invariant in (
       h.0,
-      sizes_next h.0.holds _ _ _ _ loop-test-taken h.3 wide-ensures c.from-p.ensures
+      sizes_next h.0.holds _ _ _ _ loop-test-taken h.3 from-ensures c.from-p.ensures
           h.1,
       omega arith,
       omega arith,

@@ -1,3 +1,4 @@
+use Rattle.arrays.proofs.Fills.{filled_by}
 use Rattle.layout.proofs.Seating.{seating_one, seat_room, seat_fits, seating_next}
 use native.Mathlib.Omega.{arith}
 use Prim.Native.Nat.{◌<◌}
@@ -10,7 +11,8 @@ loop-i-init c =
       omega (arith, g.some),
       g,
       c.requires.sizes_all,
-      seating_one g _ c.requires.sizes_all _ _ c.fill.ensures c.fill-2.ensures,
+      seating_one g _ c.requires.sizes_all _ _
+          (filled_by c.told-spot c.fill.ensures.after) (filled_by c.told-next c.fill-2.ensures.after),
     )
 
 pub seat_of-t-requires-clause-seat_room : goal.seat_of-t-requires-clause-seat_room
@@ -21,26 +23,26 @@ seat_of-t-requires-clause-seat_room c =
 
 pub overflow_add-next : goal.overflow_add-next
 overflow_add-next c =
-    let wide2-ensures = c.from-p.ensures in
-    let wide-ensures = c.from-v.ensures in
+    let from2-ensures = c.from-p.ensures in
+    let from-ensures = c.from-v.ensures in
     let l : c.loop-i.i < c.args.n = omega arith in
     let h = c.loop-i.invariant in
     omega (
       arith,
-      seat_fits h.2 _ h.3 _ _ _ _ _ h.0 l wide-ensures wide2-ensures h.4 _ _
+      seat_fits h.2 _ h.3 _ _ _ _ _ h.0 l from-ensures from2-ensures h.4 _ _
           c.seat_of-t.ensures,
     )
 
 pub loop-i-preserved : goal.loop-i-preserved
 loop-i-preserved c =
-    let wide2-ensures = c.from-p.ensures in
-    let wide-ensures = c.from-v.ensures in
+    let from2-ensures = c.from-p.ensures in
+    let from-ensures = c.from-v.ensures in
     let l : c.loop-i.i < c.args.n = omega arith in
     let h = c.loop-i.invariant in (
       omega arith,
       omega arith,
       h.2,
       h.3,
-      seating_next h.2 _ h.3 _ _ _ _ _ h.0 l wide-ensures wide2-ensures h.4 _ _
+      seating_next h.2 _ h.3 _ _ _ _ _ h.0 l from-ensures from2-ensures h.4 _ _
           c.seat_of-t.ensures,
     )

@@ -1,5 +1,6 @@
 use Prim.Native.Nat.{◌<◌}
 use native.Mathlib.Omega.{arith}
+use Rattle.arrays.proofs.Fills.{filled_by}
 use Rattle.reach.proofs.Grown.{read_node, read_parent}
 use Rattle.spines.proofs.HeadSweep.{heads_one, heads_more, heads_all}
 use Rattle.spines.proofs.sweeps.follow_mains.Goals.{After-from-p, After-from-v}
@@ -20,7 +21,7 @@ parent_in c =
 pub loop-i-init : goal.loop-i-init
 loop-i-init c =
     let pre = c.requires in
-    (heads_one pre.0.holds pre.1 _ c.fill.ensures, pre.0, pre.1, omega arith)
+    (heads_one pre.0.holds pre.1 _ (filled_by c.told-head c.fill.ensures.after), pre.0, pre.1, omega arith)
 
 pub offset_bounds-parent-v : goal.offset_bounds-parent-v
 offset_bounds-parent-v c = omega (arith, node_in c)
@@ -51,11 +52,11 @@ bounds-head-v c = omega (arith, node_in (goal.at.bounds-head-v c).After-from-v)
 
 pub loop-i-preserved : goal.loop-i-preserved
 loop-i-preserved c =
-    let wide2-ensures = c.from-p.ensures in
-    let wide-ensures = c.from-v.ensures in
+    let from2-ensures = c.from-p.ensures in
+    let from-ensures = c.from-v.ensures in
     let loop-test-taken = c.loop-i-test.true in
     let h = c.loop-i.invariant in (
-      heads_more h.1.holds h.2 _ _ _ _ _ h.3 loop-test-taken wide-ensures wide2-ensures h.0
+      heads_more h.1.holds h.2 _ _ _ _ _ h.3 loop-test-taken from-ensures from2-ensures h.0
           c.follow.ensures,
       h.1,
       h.2,

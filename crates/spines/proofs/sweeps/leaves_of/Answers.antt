@@ -1,5 +1,6 @@
 use Prim.Native.Nat.{◌-◌, ◌<◌}
 use native.Mathlib.Omega.{arith}
+use Rattle.arrays.proofs.Fills.{filled_by}
 use Rattle.reach.proofs.Grown.{read_node, read_parent}
 use Rattle.spines.proofs.LeafSweep.{leaves_none, leaves_next, leaves_all, leaves_fit}
 use Rattle.spines.proofs.sweeps.leaves_of.Goals.{After-from-p, After-from-v}
@@ -21,7 +22,7 @@ parent_in c =
 pub loop-i-init : goal.loop-i-init
 loop-i-init c =
     let k = c.requires in
-    (k, leaves_none k.holds _ c.fill.ensures, k.holds.some.0, omega arith)
+    (k, leaves_none k.holds _ (filled_by c.told-leaves c.fill.ensures.after), k.holds.some.0, omega arith)
 
 pub offset_bounds-parent-v : goal.offset_bounds-parent-v
 offset_bounds-parent-v c = omega (arith, node_in c)
@@ -43,14 +44,14 @@ bounds-leaves-p c = omega (arith, parent_in (goal.at.bounds-leaves-p c).After-fr
 
 pub overflow_add-y : goal.overflow_add-y
 overflow_add-y c =
-    let wide2-ensures = c.from-p.ensures in
-    let wide-ensures = c.from-v.ensures in
+    let from2-ensures = c.from-p.ensures in
+    let from-ensures = c.from-v.ensures in
     let loop-test-taken = c.loop-i-test.true in
     let h = c.loop-i.invariant in
     omega (
       arith,
       h.0.holds.some.1,
-      leaves_fit h.0.holds _ _ _ _ loop-test-taken h.3 wide-ensures wide2-ensures _ h.1
+      leaves_fit h.0.holds _ _ _ _ loop-test-taken h.3 from-ensures from2-ensures _ h.1
           c.least-w.ensures,
     )
 
@@ -68,12 +69,12 @@ bounds-leaves-p-in-loop-i c = omega (arith, parent_in (goal.at.bounds-leaves-p-i
 
 pub loop-i-preserved : goal.loop-i-preserved
 loop-i-preserved c =
-    let wide2-ensures = c.from-p.ensures in
-    let wide-ensures = c.from-v.ensures in
+    let from2-ensures = c.from-p.ensures in
+    let from-ensures = c.from-v.ensures in
     let loop-test-taken = c.loop-i-test.true in
     let h = c.loop-i.invariant in (
       h.0,
-      leaves_next h.0.holds _ _ _ _ loop-test-taken h.3 wide-ensures wide2-ensures _ h.1
+      leaves_next h.0.holds _ _ _ _ loop-test-taken h.3 from-ensures from2-ensures _ h.1
           c.least-w.ensures,
       omega arith,
       omega arith,

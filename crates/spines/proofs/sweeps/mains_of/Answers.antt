@@ -1,5 +1,6 @@
 use Prim.Native.Nat.{◌<◌}
 use native.Mathlib.Omega.{arith}
+use Rattle.arrays.proofs.Fills.{filled_by}
 use Rattle.spines.proofs.MainSweep.{bests_none, bests_more, mains_all, best_small, read_child}
 use Rattle.spines.proofs.sweeps.mains_of.Goals.{After-from-p}
 use Rattle.spines.proofs.sweeps.mains_of.Goals as goal
@@ -16,7 +17,7 @@ parent_small c = omega (arith, c.loop-c.invariant.1.some.1, parent_in c)
 pub loop-c-init : goal.loop-c-init
 loop-c-init c =
     let k = c.requires.0 in
-    (bests_none _ _ _ _ k.some.1 c.fill.ensures, k, omega arith, k.some.0)
+    (bests_none _ _ _ _ k.some.1 (filled_by c.told-main c.fill.ensures.after), k, omega arith, k.some.0)
 
 pub offset_bounds-main-p : goal.offset_bounds-main-p
 offset_bounds-main-p c = omega (arith, parent_small c)

@@ -1,6 +1,7 @@
 use Prim.Native.Nat.{◌≤◌}
 use native.Mathlib.Omega.{arith}
 use lib.ListN.{length-set}
+use Rattle.arrays.proofs.Fills.{filled_by}
 use Rattle.window.proofs.Scanning.{searched_none, searched_next, searched_end, searched_early}
 use Rattle.window.proofs.best.best.Goals.{In-loop-u}
 use Rattle.window.proofs.best.best.Goals as goal
@@ -10,8 +11,8 @@ few c = c.requires.0.grown.some.1
 
 pub loop-u-init : goal.loop-u-init
 loop-u-init c =
-    let filled = c.fill.ensures in
-    (λ g. searched_none _ g c.requires.0.grown.some.1 filled, c.requires.1, filled.long)
+    let one = filled_by {m = 4096} {v = 1} c.told-hits c.fill.ensures.after in
+    (λ g. searched_none _ g c.requires.0.grown.some.1 one, c.requires.1, one.long)
 
 pub returns-then-met : goal.returns-then-met
 returns-then-met c =

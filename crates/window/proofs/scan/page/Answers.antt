@@ -4,6 +4,7 @@ use mathlib.Core.Path.{◌≡◌, refl}
 use mathlib.Core.Bool.{true}
 use mathlib.Core.Logic.{◌≢◌}
 use native.Mathlib.Omega.{arith}
+use Rattle.arrays.proofs.Fills.{filled}
 use Rattle.paths.proofs.Fresh.{fresh}
 use Rattle.window.specs.Window.{Window, InWindow}
 use Rattle.window.specs.work.Asked.{window_asked}
@@ -23,15 +24,14 @@ module _ (c : After-best-b) where
 
   best_is : BestOf (InWindow c.args.s.now c.args.marks.now c.args.nodes asked) c.best-b.result
   best_is =
-      window_best (omega arith) n_is c.grounded.ensures c.fill_long.ensures c.counts-counts.ensures.0
+      window_best (omega arith) n_is c.grounded.ensures (filled 4096 1) c.counts-counts.ensures.0
       c.counts-counts.ensures.1 c.sums-sums.ensures.0 c.sums-sums.ensures.1 c.best-b.ensures.0
 
 pub best-b-requires : goal.best-b-requires
 best-b-requires c =
-    let wide-ensures = c.from-n.ensures in
-    let fill-long-ensures = c.fill_long.ensures in
+    let from-ensures = c.from-n.ensures in
     let grounded-ensures = c.grounded.ensures in (
-      rw wide-ensures (counted grounded-ensures fill-long-ensures),
+      rw from-ensures (counted grounded-ensures (filled 4096 1)),
       record { flags = grounded-ensures.walked.long.1; lengths = fresh.lengths; weights = fresh.weights },
     )
 
@@ -46,7 +46,7 @@ firsts-requires c =
     let grounded-ensures = c.grounded.ensures in
     let if1-left = c.if-b-eq0.false in
     let m : c.best-b.result.count ≢ 0 = omega (arith, if1-left) in (
-      rw (n_is here) (both grounded-ensures c.fill_long.ensures),
+      rw (n_is here) (both grounded-ensures (filled 4096 1)),
       c.best-b.ensures.1,
       all_hit (record { most = c.best-b.result.count; exact = true }) (omega arith) m c.best-b.ensures.0
           (λ k h. h),
@@ -55,10 +55,10 @@ firsts-requires c =
 pub returns : goal.returns
 returns c =
     let here = (goal.at.returns c).After-best-b in
-    let wide3-ensures = c.from.ensures in
-    let wide2-ensures = c.from-from.ensures in
+    let from3-ensures = c.from.ensures in
+    let from2-ensures = c.from-from.ensures in
     let if1-left = c.if-b-eq0.false in
     let m : c.best-b.result.count ≢ 0 = omega (arith, if1-left) in
     list_page _ _ (asked here) (record { most = c.best-b.result.count; exact = true }) (n_is here) (best_is here) m
-    c.grounded.ensures c.fill_long.ensures c.sums-sums.ensures.0 c.sums-sums.ensures.1 (λ k h. h)
-    refl (rw (wide2-ensures, wide3-ensures) at c.firsts.ensures)
+    c.grounded.ensures (filled 4096 1) c.sums-sums.ensures.0 c.sums-sums.ensures.1 (λ k h. h)
+    refl (rw (from2-ensures, from3-ensures) at c.firsts.ensures)
