@@ -109,7 +109,7 @@ module _ (s : List ℕ) where
   )
 
 -- the report of the changed table, which stands in the buffer, is the report with the set
-module _ (s c buffer : List ℕ) (w : WritesIn s c buffer 0) (a b : Option (List ℕ)) where
+module _ (s c buffer : List ℕ) (w : WritesIn s c buffer (Ok tt)) (a b : Option (List ℕ)) where
   pub printed_with : Prints (take (length s) buffer) a b → PrintsWith s c a b
   printed_with (text, report, put) = (text, passed_with s c buffer refused_text w report, put)
 

@@ -1,5 +1,5 @@
 // What has been handed over to the writer: the two functions that write, and how far they have come.
-ghost use Rattle.std.specs.Prelude.{◌+◌, ◌≤◌, ◌≡◌, IfOk, OnErr, OnOk, length, take};
+ghost use Rattle.std.specs.Prelude.{◌+◌, ◌≡◌, IfOk, OnErr, OnOk, length};
 ghost use Rattle.std.specs.Io.KnownBytes.{Appends};
 ghost use Rattle.streams.specs.Front.{HasWritten};
 ghost use Rattle.printing.specs.Printed.{PrintsWith, PrintsFrontWith};
@@ -23,24 +23,23 @@ pub(crate) fn nothing() -> Handed
     Handed { place: 0 }
 }
 
-// The first n bytes to the writer: they are those of the table's report from where it stands. That the system writes
+// A piece to the writer: its bytes are those of the table's report from where it stands. That the system writes
 // what its standard output is handed, in order, is not proved. After an error a front of them has been handed over, and
 // there is no outcome to go on with.
 pub(crate) fn hand_over<W: Write>(
     to: &mut W,
     s: &[u8],
-    out: &[u8],
-    n: usize,
+    piece: &[u8],
     handed: Handed,
 ) -> io::Result<Handed>
-    requires { (n ≤ length out.now) × Next s.now handed.place (take n out.now) }
-    ensures counted { IfOk result (λ after. after.place ≡ handed.place + n) }
-    ensures written { OnOk result (Appends (W.contents to.old) (W.contents to.new) (take n out.now)) }
-    ensures err { OnErr result (HasWritten (W.contents to.old) (W.contents to.new) (take n out.now)) }
+    requires { Next s.now handed.place piece.now }
+    ensures counted { IfOk result (λ after. after.place ≡ handed.place + length piece.now) }
+    ensures written { OnOk result (Appends (W.contents to.old) (W.contents to.new) piece.now) }
+    ensures err { OnErr result (HasWritten (W.contents to.old) (W.contents to.new) piece.now) }
 {
-    write_all(to, &out[..n])?;
+    write_all(to, piece)?;
     Ok(Handed {
-        place: handed.place + n,
+        place: handed.place + piece.len(),
     })
 }
 

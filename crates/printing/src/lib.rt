@@ -31,7 +31,7 @@ fn pieces<W: Write>(
     let mut p = reporting::first(s, branches, rows, out);
     let mut handed = nothing();
     while p.n > 0 {
-        handed = hand_over(to, s, out, p.n, handed)?;
+        handed = hand_over(to, s, &out[..p.n], handed)?;
         p = reporting::next(s, branches, rows, out, p);
     }
     Ok(handed)
@@ -63,12 +63,10 @@ pub fn print_with<W: Write>(
     ensures written { OnOk result (PrintsWith table.now changes.now (W.contents to.old) (W.contents to.new)) }
     ensures err { OnErr result (PrintsFrontWith table.now changes.now (W.contents to.old) (W.contents to.new)) }
 {
-    let mut buffer: [u8; 49152] = [0; 49152];
-    let k = changeset::write_in(table, changes, &mut buffer);
-    if k != 0 {
-        let n = lines::refused(out, k as u64, 0, 0);
+    let mut buffer = [0; 49152];
+    if let Err(why) = changeset::write_in(table, changes, &mut buffer) {
+        let n = lines::refused(out, u64::from(why.number), why.row as u64, 0);
         return hand_over_line(to, table, changes, &out[..n]);
     }
-    let size = table.len();
-    print(to, &buffer[..size], rows, out)
+    print(to, &buffer[..table.len()], rows, out)
 }
