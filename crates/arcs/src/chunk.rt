@@ -4,7 +4,6 @@ ghost use Rattle.std.specs.Prelude.{◌≡◌, ◌+◌, ◌*◌, ◌/◌, ◌%�
 ghost use Rattle.roads.specs.work.Line.{KindFits};
 ghost use Rattle.arcs.specs.work.Chunk.{turned_key, key_at, bucket, Loaded, link, LastAt, Buckets, Searchable, ChunkEnd};
 
-use arrays::{fill_wide, long, wide};
 use roads::{Kind, Step, next_arc};
 
 // Where the arcs of a text begin, and how they are read.
@@ -42,7 +41,7 @@ pub(crate) struct Work {
 fn packed(from: u16, to: u16, number: u32) -> u64
     ensures { (result / 4294967296 ≡ 65536 * from + to) × (result % 4294967296 ≡ number) }
 {
-    4294967296 * (65536 * u64::from(from) + u64::from(to)) + long(number)
+    4294967296 * (65536 * u64::from(from) + u64::from(to)) + u64::from(number)
 }
 
 pub(crate) fn key_of(arc: u64) -> u32
@@ -99,8 +98,8 @@ impl Links {
         requires { (length chunk.now.arcs ≡ 8192) × (chunk.now.count ≤ 8192) }
         ensures { Buckets chunk.now.arcs chunk.now.count self.new.first self.new.next }
     {
-        fill_wide(&mut self.first, 0);
-        fill_wide(&mut self.next, 0);
+        self.first.fill(0);
+        self.next.fill(0);
         for i in 0..chunk.count {
             let v = bucket_of(key_of(chunk.arcs[i]));
             self.next[i] = self.first[v];
@@ -113,13 +112,13 @@ impl Links {
         requires { Searchable chunk.now.count chunk.now.arcs self.now.first self.now.next }
         ensures { LastAt (key_at chunk.now.arcs) key chunk.now.count (link result) }
     {
-        let mut i = wide(self.first[bucket_of(key)]);
+        let mut i = usize::from(self.first[bucket_of(key)]);
         while i > 0 {
             let h = i - 1;
             if key_of(chunk.arcs[h]) == key {
                 return Some(h);
             }
-            i = wide(self.next[h]);
+            i = usize::from(self.next[h]);
         }
         None
     }

@@ -86,7 +86,7 @@ pub fn put_text(out: &mut [u8], s: &[u8], nodes: u16, top: u64, place: usize) ->
     ensures { Put out.old 0 (text_of top nodes (row_arc place s.now) (nodes - 1))
         out.new result }
 {
-    let rows = arrays::wide(nodes) - 1;
+    let rows = usize::from(nodes) - 1;
     let p = put_head(out, u64::from(nodes), 2 * (rows as u64));
     let t = Rows {
         table: s,

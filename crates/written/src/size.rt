@@ -51,7 +51,7 @@ pub fn text_size(s: &[u8], nodes: u16, top: u64, place: usize) -> usize
     requires { (1 ≤ nodes) × RowsThere s.now (nodes - 1) place }
     ensures { result ≡ length (text_of top nodes (row_arc place s.now) (nodes - 1)) }
 {
-    let rows = arrays::wide(nodes) - 1;
+    let rows = usize::from(nodes) - 1;
     let n = digits_of(u64::from(nodes));
     let m = digits_of(2 * (rows as u64));
     let t = Rows {

@@ -10,13 +10,13 @@ use Rattle.written.proofs.put.put_text.Goals as goal
 pub put_head-p-requires : goal.put_head-p-requires
 put_head-p-requires c =
     let args = c.args in
-    rw (c.wide-rows.ensures.0, c.from.ensures)
+    rw (c.from-rows.ensures, c.from.ensures)
     (omega (arith, text_length args.top (row_arc args.place args.s.now) args.nodes (args.nodes - 1)))
 
 pub put_rows-requires : goal.put_rows-requires
 put_rows-requires c =
     let args = c.args in
-    let e = c.wide-rows.ensures.0 in
+    let e = c.from-rows.ensures in
     let p = rw (e, c.from.ensures) at c.put_head-p.ensures in
     rw e (
       omega (arith, text_length args.top (row_arc args.place args.s.now) args.nodes (args.nodes - 1)),
@@ -26,5 +26,5 @@ put_rows-requires c =
 pub returns : goal.returns
 unfolding text_of
 returns c =
-    let e = c.wide-rows.ensures.0 in
+    let e = c.from-rows.ensures in
     put_then (rw (e, c.from.ensures) at c.put_head-p.ensures) (rw e at c.put_rows.ensures)

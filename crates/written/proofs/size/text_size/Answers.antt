@@ -9,13 +9,13 @@ use Rattle.written.proofs.size.text_size.Goals as goal
 pub rows_size-requires : goal.rows_size-requires
 rows_size-requires c =
     let pre = c.requires in
-    let e = c.wide-rows.ensures.0 in
+    let e = c.from-rows.ensures in
     rw e pre.1
 
 pub returns : goal.returns
 returns c =
     let args = c.args in
-    let e = c.wide-rows.ensures.0 in
+    let e = c.from-rows.ensures in
     let n = rw c.from.ensures at c.digits_of-n.ensures.0 in
     let d = rw e at c.digits_of-m.ensures.0 in
     let k = rw e at c.rows_size.ensures.0 in

@@ -1,11 +1,12 @@
 use mathlib.Core.Path.{◌≡◌, ap, ◌∙◌}
 use native.Mathlib.Omega.{arith}
+use Rattle.arrays.proofs.Fills.{filled_by}
 use Rattle.arcs.specs.work.Chunk.{bucket}
 use Rattle.arcs.proofs.Chunks.{buckets_none, buckets_more}
 use Rattle.arcs.proofs.chunk.Links.chain.Goals as goal
 
 pub loop-i-init : goal.loop-i-init
-loop-i-init c = buckets_none _ _ _ c.fill_wide.ensures c.fill_wide-2.ensures.long
+loop-i-init c = buckets_none _ _ _ (filled_by (omega arith) c.fill.ensures.after) (omega arith)
 
 pub loop-i-preserved : goal.loop-i-preserved
 loop-i-preserved c =

@@ -7,7 +7,7 @@ use Rattle.arcs.proofs.chunk.Links.find.Goals as goal
 pub loop-i-init : goal.loop-i-init
 loop-i-init c =
     let v = c.bucket_of.ensures in
-    rw c.wide-i.ensures.0 (down_first _ _ _ _ _ _ v.0 v.1 c.requires.buckets)
+    rw c.from-i.ensures (down_first _ _ _ _ _ _ v.0 v.1 c.requires.buckets)
 
 pub offset_bounds-chunk-h : goal.offset_bounds-chunk-h
 offset_bounds-chunk-h c = omega (arith, c.loop-i.invariant.below, c.requires.buckets.few)
@@ -30,11 +30,11 @@ pub loop-i-smaller : goal.loop-i-smaller
 loop-i-smaller c =
     let h = c.loop-i.invariant in
     let next = c.requires.buckets.nexts (c.loop-i.i - 1) (omega (arith, h.below)) in
-    omega (arith, c.wide-i-in-loop-i.ensures.0, next.below)
+    omega (arith, c.from-i-in-loop-i.ensures, next.below)
 
 pub loop-i-preserved : goal.loop-i-preserved
 loop-i-preserved c =
-    rw c.wide-i-in-loop-i.ensures.0
+    rw c.from-i-in-loop-i.ensures
     (down_next _ _ _ _ _ _ c.requires.buckets c.loop-i.invariant (omega arith)
     (λ e. c.if-key_of-key.false (c.key_of.ensures ∙ e)))
 
