@@ -8,7 +8,7 @@ ghost use Rattle.vetting.specs.work.Bits.{bit, Has, PutIn};
 pub(crate) fn clear(bits: &mut [u64; 16384])
     ensures { Filled 16384 0 bits.new }
 {
-    *bits = [0; 16384];
+    bits.fill(0);
 }
 
 // Bit k of w.
