@@ -8,16 +8,10 @@ use writer::RowAnswer;
 // Fewer than 12 where there are no more.
 fn put_header(s: &[u8], made: &mut [u8])
     requires { length made.old ≡ length s.now }
+    ensures { length made.new ≡ length made.old }
 {
-    let mut size = s.len();
-    if 12 < size {
-        size = 12;
-    }
-    let mut i: usize = 0;
-    while i < size {
-        made[i] = s[i];
-        i += 1;
-    }
+    let size = s.len().min(12);
+    made[..size].copy_from_slice(&s[..size]);
 }
 
 fn put_row(s: &[u8], made: &mut [u8], at: usize) -> RowAnswer
@@ -35,16 +29,10 @@ fn put_row(s: &[u8], made: &mut [u8], at: usize) -> RowAnswer
 fn put_rows(s: &[u8], made: &mut [u8]) -> RowAnswer
     requires { length made.old ≡ length s.now }
 {
-    let parts = s.len() / 12;
-    let mut i: usize = 1;
-    while i < parts {
-        let o = put_row(s, made, 12 * i);
-        match o {
-            RowAnswer::Refused(why) => return RowAnswer::Refused(why),
-            RowAnswer::Written => i += 1,
-        }
+    for i in 1..s.len() / 12 {
+        put_row(s, made, 12 * i)?;
     }
-    RowAnswer::Written
+    Ok(())
 }
 
 pub(crate) fn make(s: &[u8], made: &mut [u8]) -> RowAnswer

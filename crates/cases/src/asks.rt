@@ -1,240 +1,38 @@
 // The operations: what an ask calls, and its answer as fields. A new operation is a code and an arm here, and where its
-// answer is of a new sort a function that makes it fields. By a code that is greater by 128 it is asked with the case's
+// answer is of a new sort how that is told (told.rt). By a code that is greater by 128 it is asked with the case's
 // change set.
 ghost use Rattle.std.specs.Prelude.{◌≡◌, length};
 
 use crate::read::Ask;
 use crate::say::Answer;
+use crate::told::{Told, outcome, ringless};
 use crate::{anew, read, say};
 use accept::AcceptAnswer;
 use changes::Change;
-use convert::Conversion;
-use heaviest::HeaviestAnswer;
-use mesh::MeshAnswer;
 use numbers::put_bytes;
 use paging::Listed;
-use pair::PairAnswer;
 use spines::HeadsAnswer;
 use std::io;
 use std::io::{Read, Write};
-use table::{Opening, Row};
 use vetting::Vetted;
 use window::WindowAnswer;
 use writer::RowAnswer;
 
-// A refusal that tells of no ring.
-fn ringless(why: table::Refusal, many: usize) -> Answer {
-    Answer {
-        number: why.number as u64,
-        row: why.row as u64,
-        ring: 0,
-        fields: [0, 0, 0, 0],
-        many: many,
-        weight: 4,
-    }
-}
-
-fn opened(o: Opening) -> Answer {
-    match o {
-        Opening::Refused(why) => ringless(why, 2),
-        Opening::Opened { nodes, bound } => say::fine(2, nodes as u64, bound as u64),
-    }
-}
-
-// A signed cast is proved by hand; in a function of its own that takes one line.
-fn wide(weight: i32) -> i64 {
-    weight as i64
-}
-
-fn decoded(r: Row) -> Answer {
-    Answer {
-        number: 0,
-        row: 0,
-        ring: 0,
-        fields: [
-            r.a as u64,
-            r.b as u64,
-            r.length as u64,
-            pages::raised(wide(r.weight)),
-        ],
-        many: 4,
-        weight: 3,
-    }
-}
-
-fn accepted(o: AcceptAnswer) -> Answer {
-    match o {
-        AcceptAnswer::Refused(why) => say::refused(why, 3),
-        AcceptAnswer::Accepted {
-            nodes,
-            bound,
-            filler,
-        } => Answer {
-            number: 0,
-            row: 0,
-            ring: 0,
-            fields: [nodes as u64, bound as u64, filler as u64, 0],
-            many: 3,
-            weight: 4,
-        },
-    }
-}
-
-fn found(o: PairAnswer) -> Answer {
-    match o {
-        PairAnswer::Refused(why) => say::refused(why, 3),
-        PairAnswer::Found {
-            length,
-            weight,
-            hops,
-        } => Answer {
-            number: 0,
-            row: 0,
-            ring: 0,
-            fields: [length as u64, pages::raised(weight), hops as u64, 0],
-            many: 3,
-            weight: 1,
-        },
-    }
-}
-
-fn between(o: HeaviestAnswer) -> Answer {
-    match o {
-        HeaviestAnswer::Refused(why) => say::refused(why, 4),
-        HeaviestAnswer::Between {
-            low,
-            high,
-            length,
-            weight,
-        } => Answer {
-            number: 0,
-            row: 0,
-            ring: 0,
-            fields: [
-                low as u64,
-                high as u64,
-                length as u64,
-                pages::raised(weight),
-            ],
-            many: 4,
-            weight: 3,
-        },
-    }
-}
-
-fn most(o: WindowAnswer) -> Answer {
-    match o {
-        WindowAnswer::Refused(why) => say::refused(why, 4),
-        WindowAnswer::Most {
-            low,
-            high,
-            count,
-            weight,
-        } => Answer {
-            number: 0,
-            row: 0,
-            ring: 0,
-            fields: [low as u64, high as u64, count as u64, pages::raised(weight)],
-            many: 4,
-            weight: 3,
-        },
-    }
-}
-
-fn meshed(o: MeshAnswer) -> Answer {
-    match o {
-        MeshAnswer::Refused(why) => say::refused(why, 3),
-        MeshAnswer::Most {
-            branches,
-            low,
-            high,
-        } => Answer {
-            number: 0,
-            row: 0,
-            ring: 0,
-            fields: [branches as u64, low as u64, high as u64, 0],
-            many: 3,
-            weight: 4,
-        },
-    }
-}
-
-fn converted(o: Conversion) -> Answer {
-    match o {
-        Conversion::Refused(why) => say::refused(why, 0),
-        Conversion::Converted => say::fine(0, 0, 0),
-    }
-}
-
 // What the mark of a row says: whether it is spent, and its run. Nothing where the row has none.
 fn mark_of(marks: &[u16], row: usize) -> Answer {
-    if row < marks.len() {
-        let mark = marks[row];
-        let run = marks::run_of(mark) as u64;
-        if marks::is_spent(mark) {
-            return say::fine(2, 1, run);
-        }
-        return say::fine(2, 0, run);
+    if row >= marks.len() {
+        return say::fine(2, [0; 4]);
     }
-    say::fine(2, 0, 0)
-}
-
-fn listed(o: Listed) -> Answer {
-    match o {
-        Listed::Refused(why) => say::refused(why, 2),
-        Listed::Rows { written, left } => say::fine(2, written as u64, left as u64),
-    }
-}
-
-// No refusal: what vetting finds, 1 yes, 2 a row at fault, 3 a pair missing; that row, and that pair.
-fn verdict(found: u64, row: u64, low: u64, high: u64) -> Answer {
-    Answer {
-        number: 0,
-        row: 0,
-        ring: 0,
-        fields: [found, row, low, high],
-        many: 4,
-        weight: 4,
-    }
-}
-
-fn vetted(o: Vetted) -> Answer {
-    match o {
-        Vetted::Refused(why) => say::refused(why, 4),
-        Vetted::Yes => verdict(1, 0, 0, 0),
-        Vetted::Fault { row } => verdict(2, row as u64, 0, 0),
-        Vetted::Missing { low, high } => verdict(3, 0, low as u64, high as u64),
-    }
-}
-
-fn written(o: RowAnswer) -> Answer {
-    match o {
-        RowAnswer::Refused(why) => ringless(why, 0),
-        RowAnswer::Written => say::fine(0, 0, 0),
-    }
-}
-
-fn headed(o: HeadsAnswer) -> Answer {
-    match o {
-        HeadsAnswer::Refused(why) => say::refused(why, 0),
-        HeadsAnswer::Written => say::fine(0, 0, 0),
-    }
-}
-
-fn changed(o: Change) -> Answer {
-    match o {
-        Change::Refused(why) => say::refused(why, 1),
-        Change::Changed(k) => say::fine(1, k as u64, 0),
-    }
-}
-
-// A signed number from its 64 bits.
-fn signed(x: u64) -> i64 {
-    if x < 9223372036854775808 {
-        return x as i64;
-    }
-    let m = (18446744073709551615 - x) as i64;
-    -1 - m
+    let mark = marks[row];
+    say::fine(
+        2,
+        [
+            u64::from(marks::is_spent(mark)),
+            u64::from(marks::run_of(mark)),
+            0,
+            0,
+        ],
+    )
 }
 
 // The table's own functions, and the row shown. A row number is any that 64 bits hold.
@@ -243,20 +41,25 @@ fn of_table<W: Write>(to: &mut W, s: &[u8], set: &[u8], q: Ask) -> io::Result<()
     let row = q.x as usize;
     let shown = q.shown;
     match code {
-        1 => say::line(to, opened(table::open_table(s))),
-        2 => say::line(to, opened(table::examine(s))),
-        3 => say::bytes(to, say::fine(0, 0, 0), table::row_part(s, row), shown),
-        4 => say::line(to, say::fine(1, table::next_row(s, row) as u64, 0)),
-        5 => say::bytes(to, say::fine(0, 0, 0), table::first_row(s), shown),
-        6 => say::line(to, decoded(table::row_at(s, row))),
-        _ => say::bytes(to, say::fine(0, 0, 0), changeset::shown(s, set, row), shown),
+        1 => say::line(to, outcome(ringless(table::open_table(s)))),
+        2 => say::line(to, outcome(ringless(table::examine(s)))),
+        3 => say::memory(to, say::fine(0, [0; 4]), table::row_part(s, row), shown),
+        4 => say::line(to, say::fine(1, [table::next_row(s, row) as u64, 0, 0, 0])),
+        5 => say::memory(to, say::fine(0, [0; 4]), table::first_row(s), shown),
+        6 => say::line(to, table::row_at(s, row).told()),
+        _ => say::memory(
+            to,
+            say::fine(0, [0; 4]),
+            changeset::shown(s, set, row),
+            shown,
+        ),
     }
 }
 
 // The lower sum of a window is where the floor of a listing is.
 fn in_window(s: &[u8], set: &[u8], marks: &[u16], q: Ask) -> WindowAnswer {
-    let sum_low = signed(q.x);
-    let sum_high = signed(q.sum_high);
+    let sum_low = q.x.cast_signed();
+    let sum_high = q.sum_high.cast_signed();
     if q.code == 23 {
         return window::window(s, marks, q.count_low, q.count_high, sum_low, sum_high);
     }
@@ -267,32 +70,32 @@ fn in_window(s: &[u8], set: &[u8], marks: &[u16], q: Ask) -> WindowAnswer {
 fn of_net(s: &[u8], set: &[u8], marks: &[u16], q: Ask) -> Answer {
     let code = q.code;
     match code {
-        17 => accepted(accept::accept(s)),
-        18 => found(pair::pair(s, marks, q.a, q.b)),
-        19 => between(heaviest::heaviest(s, marks)),
-        20 => between(heaviest::heaviest_exact(s, marks)),
-        21 => converted(convert::convert(s, marks)),
+        17 => outcome(accept::accept(s)),
+        18 => outcome(pair::pair(s, marks, q.a, q.b)),
+        19 => outcome(heaviest::heaviest(s, marks)),
+        20 => outcome(heaviest::heaviest_exact(s, marks)),
+        21 => outcome(convert::convert(s, marks)),
         22 => mark_of(marks, q.x as usize),
-        24 => meshed(mesh::mesh(s)),
-        _ => most(in_window(s, set, marks, q)),
+        24 => outcome(mesh::mesh(s)),
+        _ => outcome(in_window(s, set, marks, q)),
     }
 }
 
 fn of_changed_net(s: &[u8], set: &[u8], marks: &[u16], q: Ask) -> Answer {
     let code = q.code;
     match code {
-        145 => accepted(frozen::accept_with(s, set)),
-        146 => found(frozen::pair_with(s, set, marks, q.a, q.b)),
-        147 => between(frozen::heaviest_with(s, set, marks)),
-        148 => between(frozen::heaviest_exact_with(s, set, marks)),
-        149 => converted(frozen::convert_with(s, set, marks)),
-        _ => most(in_window(s, set, marks, q)),
+        145 => outcome(frozen::accept_with(s, set)),
+        146 => outcome(frozen::pair_with(s, set, marks, q.a, q.b)),
+        147 => outcome(frozen::heaviest_with(s, set, marks)),
+        148 => outcome(frozen::heaviest_exact_with(s, set, marks)),
+        149 => outcome(frozen::convert_with(s, set, marks)),
+        _ => outcome(in_window(s, set, marks, q)),
     }
 }
 
 fn all_in_window(s: &[u8], set: &[u8], marks: &[u16], q: Ask, rows: &mut [u8]) -> Listed {
-    let sum_low = signed(q.x);
-    let sum_high = signed(q.sum_high);
+    let sum_low = q.x.cast_signed();
+    let sum_high = q.sum_high.cast_signed();
     if q.code == 35 {
         return window::window_list(
             s,
@@ -322,7 +125,7 @@ fn all_in_window(s: &[u8], set: &[u8], marks: &[u16], q: Ask, rows: &mut [u8]) -
 
 fn page(s: &[u8], set: &[u8], marks: &[u16], q: Ask, rows: &mut [u8]) -> Listed {
     let code = q.code;
-    let floor = signed(q.x);
+    let floor = q.x.cast_signed();
     match code {
         33 => listing::listing(s, marks, floor, q.a, q.b, rows),
         34 => listing::listing_exact(s, marks, floor, q.a, q.b, rows),
@@ -341,9 +144,9 @@ fn row_of(q: Ask, row: &mut [u8]) -> RowAnswer {
 // What is put into lent bytes: one row, or a page of them.
 fn put(s: &[u8], set: &[u8], marks: &[u16], q: Ask, rows: &mut [u8]) -> Answer {
     if q.code == 36 {
-        return written(row_of(q, rows));
+        return outcome(ringless(row_of(q, rows)));
     }
-    listed(page(s, set, marks, q, rows))
+    outcome(page(s, set, marks, q, rows))
 }
 
 // As many bytes as are lent, each of which held 165.
@@ -354,20 +157,17 @@ fn of_lent<W: Write>(to: &mut W, s: &[u8], set: &[u8], marks: &[u16], q: Ask) ->
     if size <= whole.len() {
         let rows = &mut whole[0..size];
         let a = put(s, set, marks, q, rows);
-        say::bytes(to, a, rows, q.shown)?;
+        say::memory(to, a, rows, q.shown)?;
     }
     Ok(())
 }
 
 // What the writer refuses; or all rows are written, and what was made is accepted or not.
-fn remade(s: &[u8], made: &mut [u8]) -> Answer
+fn remade(s: &[u8], made: &mut [u8]) -> AcceptAnswer
     requires { length made.old ≡ length s.now }
 {
-    let o = anew::make(s, made);
-    match o {
-        RowAnswer::Refused(why) => ringless(why, 3),
-        RowAnswer::Written => accepted(accept::accept(made)),
-    }
+    anew::make(s, made)?;
+    accept::accept(made)
 }
 
 // As many bytes as the table has, each of which held 165.
@@ -377,8 +177,8 @@ fn of_table_anew<W: Write>(to: &mut W, s: &[u8], q: Ask) -> io::Result<()> {
     let whole = &mut space[..];
     if size <= whole.len() {
         let made = &mut whole[0..size];
-        let a = remade(s, made);
-        say::bytes(to, a, made, q.shown)?;
+        let a = outcome(remade(s, made));
+        say::memory(to, a, made, q.shown)?;
     }
     Ok(())
 }
@@ -406,8 +206,8 @@ fn of_heads<W: Write>(to: &mut W, s: &[u8], set: &[u8], q: Ask) -> io::Result<()
     let whole = &mut space[..];
     if size <= whole.len() {
         let list = &mut whole[0..size];
-        let a = headed(heads(s, set, q, list));
-        say::words(to, a, list, q.shown)?;
+        let a = outcome(heads(s, set, q, list));
+        say::memory(to, a, list, q.shown)?;
     }
     Ok(())
 }
@@ -431,8 +231,8 @@ fn of_marks<W: Write>(
     marks: &mut [u16],
     q: Ask,
 ) -> io::Result<()> {
-    let a = changed(change(s, set, marks, q));
-    say::words(to, a, marks, q.shown)
+    let a = outcome(change(s, set, marks, q));
+    say::memory(to, a, marks, q.shown)
 }
 
 // No operation: another bound for the asks that follow, in the table's own bytes. A table without room for it stays.
@@ -440,11 +240,11 @@ fn of_bound<W: Write>(to: &mut W, s: &mut [u8], q: Ask) -> io::Result<()> {
     if s.len() >= 12 {
         put_bytes(s, 8, q.x, 4);
     }
-    say::line(to, say::fine(0, 0, 0))
+    say::line(to, say::fine(0, [0; 4]))
 }
 
 fn verdict_on(s: &[u8], set: &[u8], marks: &[u16], q: Ask, list: &[u8]) -> Vetted {
-    let floor = signed(q.x);
+    let floor = q.x.cast_signed();
     if q.code == 97 {
         return vet::vet(s, marks, floor, list);
     }
@@ -466,7 +266,7 @@ fn of_list<R: Read, W: Write>(
     if size <= whole.len() {
         let list = &mut whole[0..size];
         read::bytes(from, list)?;
-        say::line(to, vetted(verdict_on(s, set, marks, q, list)))?;
+        say::line(to, outcome(verdict_on(s, set, marks, q, list)))?;
     }
     Ok(())
 }

@@ -7,6 +7,7 @@ mod anew;
 mod asks;
 mod read;
 mod say;
+mod told;
 
 use std::io;
 use std::io::{Read, Write};

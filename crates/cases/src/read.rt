@@ -1,7 +1,5 @@
 // Standard input: a case's sizes, its bytes and marks, its asks, all in the order in which they stand there. Where
 // the input ends, what is missing is zeros.
-ghost use Rattle.std.specs.Prelude.{◌≡◌, ◌<◌};
-
 use std::io;
 use std::io::{Read, Write};
 use streams::{read_full, write_all};
@@ -24,40 +22,32 @@ pub(crate) struct Ask {
     pub(crate) count_high: u32,
 }
 
-fn wide(x: u8) -> u16
-    ensures { (result ≡ x) × (result < 256) }
-{
-    x as u16
-}
-
 // The next number of 16 bits, the lower byte first.
 pub(crate) fn number<R: Read>(from: &mut R) -> io::Result<u16> {
     let mut h = [0u8; 2];
     read_full(from, &mut h)?;
-    Ok(wide(h[0]) + 256 * wide(h[1]))
+    Ok(u16::from_le_bytes(h))
 }
 
-// The next number of 32 bits, the lower bytes first.
+// The next number of 32 bits, the lowest byte first.
 fn middle<R: Read>(from: &mut R) -> io::Result<u32> {
-    let a = number(from)? as u32;
-    let b = number(from)? as u32;
-    Ok(a + 65536 * b)
+    let mut h = [0u8; 4];
+    read_full(from, &mut h)?;
+    Ok(u32::from_le_bytes(h))
 }
 
-// The next number of 64 bits, the lower bytes first.
+// The next number of 64 bits, the lowest byte first.
 pub(crate) fn long<R: Read>(from: &mut R) -> io::Result<u64> {
-    let a = number(from)? as u64;
-    let b = number(from)? as u64;
-    let c = number(from)? as u64;
-    let d = number(from)? as u64;
-    Ok(a + 65536 * b + 4294967296 * c + 281474976710656 * d)
+    let mut h = [0u8; 8];
+    read_full(from, &mut h)?;
+    Ok(u64::from_le_bytes(h))
 }
 
 pub(crate) fn next_ask<R: Read>(from: &mut R) -> io::Result<Ask> {
     let code = number(from)?;
     let text = number(from)?;
-    let lent = number(from)? as usize;
-    let shown = number(from)? as usize;
+    let lent = usize::from(number(from)?);
+    let shown = usize::from(number(from)?);
     let run = number(from)?;
     let a = number(from)?;
     let b = number(from)?;
@@ -82,7 +72,7 @@ pub(crate) fn next_ask<R: Read>(from: &mut R) -> io::Result<Ask> {
 
 // The next text of the input, written as it stands.
 pub(crate) fn text<R: Read, W: Write>(from: &mut R, to: &mut W, count: u16) -> io::Result<()> {
-    let size = count as usize;
+    let size = usize::from(count);
     let mut space = [0u8; 512];
     let whole = &mut space[..];
     if size <= whole.len() {
@@ -99,9 +89,8 @@ pub(crate) fn bytes<R: Read>(from: &mut R, buf: &mut [u8]) -> io::Result<()> {
 }
 
 pub(crate) fn marks<R: Read>(from: &mut R, marks: &mut [u16]) -> io::Result<()> {
-    for i in 0..marks.len() {
-        let m = number(from)?;
-        marks[i] = m;
+    for mark in marks.iter_mut() {
+        *mark = number(from)?;
     }
     Ok(())
 }

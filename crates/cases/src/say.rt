@@ -1,44 +1,53 @@
 // A line of standard output: number, row and ring, the fields, and what lent memory holds.
-ghost use Rattle.std.specs.Prelude.{◌<◌};
-
 use std::io;
 use std::io::Write;
 use streams::write_all;
 use tree::Refusal;
 
-// What an operation answers: as many fields as it has, of which one may be a weight, lifted by 2^33 (none where
-// `weight` is 4).
+// What an operation answers: as many fields as it has, of which one may be a weight, lifted by 2^33.
 #[derive(Clone, Copy)]
 pub(crate) struct Answer {
-    pub(crate) number: u64,
-    pub(crate) row: u64,
-    pub(crate) ring: u64,
-    pub(crate) fields: [u64; 4],
-    pub(crate) many: usize,
-    pub(crate) weight: usize,
+    number: u64,
+    row: u64,
+    ring: u64,
+    fields: [u64; 4],
+    many: usize,
+    weight: Option<usize>,
 }
 
 // A refusal: every field is 0.
 pub(crate) fn refused(why: Refusal, many: usize) -> Answer {
     Answer {
-        number: why.number as u64,
+        number: u64::from(why.number),
         row: why.row as u64,
         ring: why.ring as u64,
-        fields: [0, 0, 0, 0],
-        many: many,
-        weight: 4,
+        fields: [0; 4],
+        many,
+        weight: None,
     }
 }
 
-// No refusal, and at most two fields.
-pub(crate) fn fine(many: usize, one: u64, two: u64) -> Answer {
+// No refusal: the first `many` of these.
+pub(crate) fn fine(many: usize, fields: [u64; 4]) -> Answer {
     Answer {
         number: 0,
         row: 0,
         ring: 0,
-        fields: [one, two, 0, 0],
-        many: many,
-        weight: 4,
+        fields,
+        many,
+        weight: None,
+    }
+}
+
+// The same, where the field `place` is a weight.
+pub(crate) fn weighed(many: usize, place: usize, fields: [u64; 4]) -> Answer {
+    Answer {
+        number: 0,
+        row: 0,
+        ring: 0,
+        fields,
+        many,
+        weight: Some(place),
     }
 }
 
@@ -54,18 +63,8 @@ fn lifted<W: Write>(to: &mut W, x: u64) -> io::Result<()> {
     }
 }
 
-fn field<W: Write>(to: &mut W, a: Answer, i: usize) -> io::Result<()>
-    requires { i < 4 }
-{
-    let fields = a.fields;
-    if i < a.many {
-        if i == a.weight {
-            lifted(to, fields[i])?;
-        } else {
-            number(to, fields[i])?;
-        }
-    }
-    Ok(())
+fn field<W: Write>(to: &mut W, x: u64, weight: bool) -> io::Result<()> {
+    if weight { lifted(to, x) } else { number(to, x) }
 }
 
 // The answer on its line, which goes on.
@@ -73,10 +72,12 @@ fn told<W: Write>(to: &mut W, a: Answer) -> io::Result<()> {
     number(to, a.number)?;
     number(to, a.row)?;
     number(to, a.ring)?;
-    field(to, a, 0)?;
-    field(to, a, 1)?;
-    field(to, a, 2)?;
-    field(to, a, 3)
+    for (i, x) in a.fields.iter().enumerate() {
+        if i < a.many {
+            field(to, *x, a.weight == Some(i))?;
+        }
+    }
+    Ok(())
 }
 
 pub(crate) fn line<W: Write>(to: &mut W, a: Answer) -> io::Result<()> {
@@ -104,28 +105,16 @@ fn more<W: Write>(to: &mut W, s: u64, x: u64, show: bool) -> io::Result<u64> {
     Ok(((s % 4294967291) * 257 + x % 65536) % 4294967291)
 }
 
-fn wide(x: u8) -> u64 {
-    x as u64
-}
-
-fn long(x: u16) -> u64 {
-    x as u64
-}
-
-pub(crate) fn bytes<W: Write>(to: &mut W, a: Answer, m: &[u8], shown: usize) -> io::Result<()> {
+pub(crate) fn memory<T: Copy + Into<u64>, W: Write>(
+    to: &mut W,
+    a: Answer,
+    m: &[T],
+    shown: usize,
+) -> io::Result<()> {
     begun(to, a)?;
     let mut s: u64 = 1;
-    for i in 0..m.len() {
-        s = more(to, s, wide(m[i]), i < shown)?;
-    }
-    sum(to, s)
-}
-
-pub(crate) fn words<W: Write>(to: &mut W, a: Answer, m: &[u16], shown: usize) -> io::Result<()> {
-    begun(to, a)?;
-    let mut s: u64 = 1;
-    for i in 0..m.len() {
-        s = more(to, s, long(m[i]), i < shown)?;
+    for (i, x) in m.iter().enumerate() {
+        s = more(to, s, (*x).into(), i < shown)?;
     }
     sum(to, s)
 }
