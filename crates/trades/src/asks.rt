@@ -66,20 +66,13 @@ fn writing<W: Write>(
 {
     let o = texts(s, set, lengths, weights, q);
     say::wrote(to, &o, lengths, weights)?;
-    match o {
-        WriteAnswer::Refused(_) => {}
-        WriteAnswer::Texts {
-            lengths: a,
-            weights: b,
-        } => {
-            if a <= lengths.len() {
-                if b <= weights.len() {
-                    let long = &lengths[0..a];
-                    let heavy = &weights[0..b];
-                    back(to, s, long, heavy, q.x, q.shown)?;
-                }
-            }
-        }
+    if let Ok(sizes) = o
+        && sizes.lengths <= lengths.len()
+        && sizes.weights <= weights.len()
+    {
+        let long = &lengths[..sizes.lengths];
+        let heavy = &weights[..sizes.weights];
+        back(to, s, long, heavy, q.x, q.shown)?;
     }
     Ok(())
 }

@@ -1,6 +1,6 @@
 // Standard input: a trade's sizes, its inputs, its asks, all in the order in which they stand there. Where the input
 // ends, what is missing is zeros.
-ghost use Rattle.std.specs.Prelude.{◌≡◌, ◌<◌, IfOk};
+ghost use Rattle.std.specs.Prelude.{◌<◌, IfOk};
 
 use std::io;
 use std::io::{Read, Write};
@@ -17,26 +17,20 @@ pub(crate) struct Ask {
     pub(crate) z: usize,
 }
 
-fn wide(x: u8) -> u16
-    ensures { (result ≡ x) × (result < 256) }
-{
-    x as u16
-}
-
 // The next number of 16 bits, the lower byte first.
 pub(crate) fn short<R: Read>(from: &mut R) -> io::Result<u16> {
     let mut h = [0u8; 2];
     read_full(from, &mut h)?;
-    Ok(wide(h[0]) + 256 * wide(h[1]))
+    Ok(u16::from_le_bytes(h))
 }
 
-// The next number of 32 bits, the lower bytes first.
+// The next number of 32 bits, the lowest byte first.
 pub(crate) fn number<R: Read>(from: &mut R) -> io::Result<usize>
     ensures { IfOk result (λ x. x < 4294967296) }
 {
-    let a = short(from)? as usize;
-    let b = short(from)? as usize;
-    Ok(a + 65536 * b)
+    let mut h = [0u8; 4];
+    read_full(from, &mut h)?;
+    Ok(u32::from_le_bytes(h) as usize)
 }
 
 pub(crate) fn next_ask<R: Read>(from: &mut R) -> io::Result<Ask>
@@ -44,7 +38,7 @@ pub(crate) fn next_ask<R: Read>(from: &mut R) -> io::Result<Ask>
 {
     let code = short(from)?;
     let text = short(from)?;
-    let shown = short(from)? as usize;
+    let shown = usize::from(short(from)?);
     let x = number(from)?;
     let y = number(from)?;
     let z = number(from)?;
@@ -60,7 +54,7 @@ pub(crate) fn next_ask<R: Read>(from: &mut R) -> io::Result<Ask>
 
 // The next text of the input, written as it stands.
 pub(crate) fn text<R: Read, W: Write>(from: &mut R, to: &mut W, count: u16) -> io::Result<()> {
-    let size = count as usize;
+    let size = usize::from(count);
     let mut space = [0u8; 512];
     let whole = &mut space[..];
     if size <= whole.len() {

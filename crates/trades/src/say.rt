@@ -14,7 +14,7 @@ fn number<W: Write>(to: &mut W, x: usize) -> io::Result<()> {
 }
 
 fn refused<W: Write>(to: &mut W, why: &Refusal) -> io::Result<()> {
-    number(to, why.number as usize)?;
+    number(to, usize::from(why.number))?;
     number(to, why.row)?;
     number(to, why.ring)
 }
@@ -23,10 +23,6 @@ fn fine<W: Write>(to: &mut W) -> io::Result<()> {
     number(to, 0)?;
     number(to, 0)?;
     number(to, 0)
-}
-
-fn wide(x: u8) -> usize {
-    x as usize
 }
 
 // One byte more: it is shown where it stands among the first, and joins the sum.
@@ -45,8 +41,8 @@ fn sum<W: Write>(to: &mut W, s: usize) -> io::Result<()> {
 // The lent bytes, as many of the first as are to be shown, and the sum over all.
 fn shows<W: Write>(to: &mut W, m: &[u8], shown: usize) -> io::Result<()> {
     let mut s: usize = 1;
-    for i in 0..m.len() {
-        s = more(to, s, wide(m[i]), i < shown)?;
+    for (i, x) in m.iter().enumerate() {
+        s = more(to, s, usize::from(*x), i < shown)?;
     }
     sum(to, s)
 }
@@ -59,13 +55,13 @@ pub(crate) fn made<W: Write>(
     shown: usize,
 ) -> io::Result<()> {
     match o {
-        ReadAnswer::Refused(why) => {
-            refused(to, &why)?;
-            number(to, 0)?;
-        }
-        ReadAnswer::Table { size } => {
+        Ok(size) => {
             fine(to)?;
             number(to, size)?;
+        }
+        Err(why) => {
+            refused(to, &why)?;
+            number(to, 0)?;
         }
     }
     word(to, b" now")?;
@@ -81,18 +77,15 @@ pub(crate) fn wrote<W: Write>(
     weights: &[u8],
 ) -> io::Result<()> {
     match o {
-        WriteAnswer::Refused(why) => {
+        Ok(sizes) => {
+            fine(to)?;
+            number(to, sizes.lengths)?;
+            number(to, sizes.weights)?;
+        }
+        Err(why) => {
             refused(to, why)?;
             number(to, 0)?;
             number(to, 0)?;
-        }
-        WriteAnswer::Texts {
-            lengths: a,
-            weights: b,
-        } => {
-            fine(to)?;
-            number(to, *a)?;
-            number(to, *b)?;
         }
     }
     shows(to, lengths, 0)?;
