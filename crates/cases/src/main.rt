@@ -9,6 +9,7 @@ mod read;
 mod say;
 mod told;
 
+use crate::read::Sizes;
 use std::io;
 use std::io::{Read, Write};
 
@@ -33,16 +34,15 @@ fn with_marks<R: Read, W: Write>(
     to: &mut W,
     s: &mut [u8],
     set: &[u8],
-    count: u16,
-    asks: u16,
+    sizes: Sizes,
 ) -> io::Result<()> {
-    let size = count as usize;
+    let size = usize::from(sizes.marks);
     let mut space = [0u16; 4200];
     let whole = &mut space[..];
     if size <= whole.len() {
-        let marks = &mut whole[0..size];
+        let marks = &mut whole[..size];
         read::marks(from, marks)?;
-        each(from, to, s, set, marks, asks)?;
+        each(from, to, s, set, marks, sizes.asks)?;
     }
     Ok(())
 }
@@ -51,49 +51,36 @@ fn with_set<R: Read, W: Write>(
     from: &mut R,
     to: &mut W,
     s: &mut [u8],
-    count: u16,
-    marks: u16,
-    asks: u16,
+    sizes: Sizes,
 ) -> io::Result<()> {
-    let size = count as usize;
+    let size = usize::from(sizes.set);
     let mut space = [0u8; 57400];
     let whole = &mut space[..];
     if size <= whole.len() {
-        let set = &mut whole[0..size];
+        let set = &mut whole[..size];
         read::bytes(from, set)?;
-        with_marks(from, to, s, set, marks, asks)?;
+        with_marks(from, to, s, set, sizes)?;
     }
     Ok(())
 }
 
-fn with_table<R: Read, W: Write>(
-    from: &mut R,
-    to: &mut W,
-    count: u16,
-    set: u16,
-    marks: u16,
-    asks: u16,
-) -> io::Result<()> {
-    let size = count as usize;
+fn with_table<R: Read, W: Write>(from: &mut R, to: &mut W, sizes: Sizes) -> io::Result<()> {
+    let size = usize::from(sizes.table);
     let mut space = [0u8; 49200];
     let whole = &mut space[..];
     if size <= whole.len() {
-        let table = &mut whole[0..size];
+        let table = &mut whole[..size];
         read::bytes(from, table)?;
-        with_set(from, to, table, set, marks, asks)?;
+        with_set(from, to, table, sizes)?;
     }
     Ok(())
 }
 
 // A case: how much it has of each thing, then the things.
 fn case<R: Read, W: Write>(from: &mut R, to: &mut W) -> io::Result<()> {
-    let text = read::number(from)?;
-    let table = read::number(from)?;
-    let set = read::number(from)?;
-    let marks = read::number(from)?;
-    let asks = read::number(from)?;
-    read::text(from, to, text)?;
-    with_table(from, to, table, set, marks, asks)
+    let sizes = read::next_case(from)?;
+    read::text(from, to, sizes.text)?;
+    with_table(from, to, sizes)
 }
 
 fn cases<R: Read, W: Write>(from: &mut R, to: &mut W, count: u64) -> io::Result<()> {

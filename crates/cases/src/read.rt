@@ -4,6 +4,16 @@ use std::io;
 use std::io::{Read, Write};
 use streams::{read_full, write_all};
 
+// How much a case has of each thing: bytes of its text, its table and its change set, marks, asks.
+#[derive(Clone, Copy)]
+pub(crate) struct Sizes {
+    pub(crate) text: u16,
+    pub(crate) table: u16,
+    pub(crate) set: u16,
+    pub(crate) marks: u16,
+    pub(crate) asks: u16,
+}
+
 // An ask: its operation, how many bytes its text has, how much memory is lent (of vet, how many bytes the list has) and
 // how much of that is written out after the call, and the operation's numbers: those of a window stand at the end, but
 // for its lower sum, which is x. Of a row to be written the kind is run, the length count_low, the count count_high.
@@ -23,7 +33,7 @@ pub(crate) struct Ask {
 }
 
 // The next number of 16 bits, the lower byte first.
-pub(crate) fn number<R: Read>(from: &mut R) -> io::Result<u16> {
+fn number<R: Read>(from: &mut R) -> io::Result<u16> {
     let mut h = [0u8; 2];
     read_full(from, &mut h)?;
     Ok(u16::from_le_bytes(h))
@@ -41,6 +51,21 @@ pub(crate) fn long<R: Read>(from: &mut R) -> io::Result<u64> {
     let mut h = [0u8; 8];
     read_full(from, &mut h)?;
     Ok(u64::from_le_bytes(h))
+}
+
+pub(crate) fn next_case<R: Read>(from: &mut R) -> io::Result<Sizes> {
+    let text = number(from)?;
+    let table = number(from)?;
+    let set = number(from)?;
+    let marks = number(from)?;
+    let asks = number(from)?;
+    Ok(Sizes {
+        text,
+        table,
+        set,
+        marks,
+        asks,
+    })
 }
 
 pub(crate) fn next_ask<R: Read>(from: &mut R) -> io::Result<Ask> {
