@@ -2,10 +2,7 @@
 // is. A read or a write that fails ends it with that error.
 #![tactic(auto)]
 
-ghost use Rattle.std.specs.Prelude.{◌≤◌, length};
-
 use std::io;
-use std::io::{Read, Write};
 use streams::{large_buffer, read_full};
 
 // The largest table and one byte more: enough to refuse a longer one.
@@ -18,25 +15,11 @@ fn page_space() -> [u8; 4194304] {
     [0; 4194304]
 }
 
-fn read<R: Read, W: Write>(
-    from: &mut R,
-    to: &mut W,
-    input: &mut [u8],
-    rows: &mut [u8],
-    out: &mut [u8],
-) -> io::Result<()>
-    requires { (16 ≤ length rows.old) × (65536 ≤ length out.old) }
-{
-    let n = read_full(from, input)?;
-    printing::print(to, &input[..n], rows, out)?;
-    Ok(())
-}
-
 fn main(rt: HostRuntime) -> io::Result<()> {
-    let mut from = rt.stdin();
-    let mut to = rt.stdout();
     let mut input = table_space();
+    let n = read_full(&mut rt.stdin(), &mut input)?;
     let mut rows = page_space();
     let mut out = large_buffer();
-    read(&mut from, &mut to, &mut input, &mut rows, &mut out)
+    printing::print(&mut rt.stdout(), &input[..n], &mut rows, &mut out)?;
+    Ok(())
 }

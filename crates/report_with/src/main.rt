@@ -4,8 +4,6 @@
 // nothing is handed over. A read or a write that fails ends it with that error.
 #![tactic(auto)]
 
-ghost use Rattle.std.specs.Prelude.{◌<◌, ◌≡◌};
-
 use std::io;
 use std::io::{Read, Write};
 use streams::{large_buffer, read_full};
@@ -25,18 +23,6 @@ fn page_space() -> [u8; 4194304] {
     [0; 4194304]
 }
 
-fn wide(x: u8) -> usize
-    ensures { (result ≡ x) × (result < 256) }
-{
-    x as usize
-}
-
-fn number(a: u8, b: u8, c: u8, d: u8) -> usize
-    ensures { result < 4294967296 }
-{
-    wide(a) + 256 * wide(b) + 65536 * wide(c) + 16777216 * wide(d)
-}
-
 // Whether the next bytes of standard input, as many as the input has, are there.
 fn filled<R: Read>(from: &mut R, input: &mut [u8]) -> io::Result<bool> {
     let n = read_full(from, input)?;
@@ -49,31 +35,12 @@ fn show<R: Read, W: Write>(
     table: &mut [u8],
     changes: &mut [u8],
 ) -> io::Result<()> {
-    if filled(from, table)? {
-        if filled(from, changes)? {
-            let mut rows = page_space();
-            let mut out = large_buffer();
-            printing::print_with(to, table, changes, &mut rows, &mut out)?;
-        }
+    if !filled(from, table)? || !filled(from, changes)? {
+        return Ok(());
     }
-    Ok(())
-}
-
-fn with_sizes<R: Read, W: Write>(
-    from: &mut R,
-    to: &mut W,
-    a: usize,
-    b: usize,
-    table: &mut [u8],
-    changes: &mut [u8],
-) -> io::Result<()> {
-    if a <= table.len() {
-        if b <= changes.len() {
-            let one = &mut table[0..a];
-            let two = &mut changes[0..b];
-            show(from, to, one, two)?;
-        }
-    }
+    let mut rows = page_space();
+    let mut out = large_buffer();
+    printing::print_with(to, table, changes, &mut rows, &mut out)?;
     Ok(())
 }
 
@@ -82,14 +49,12 @@ fn main(rt: HostRuntime) -> io::Result<()> {
     let mut to = rt.stdout();
     let mut h = [0u8; 8];
     read_full(&mut from, &mut h)?;
+    let a = u32::from_le_bytes([h[0], h[1], h[2], h[3]]) as usize;
+    let b = u32::from_le_bytes([h[4], h[5], h[6], h[7]]) as usize;
     let mut table = table_space();
     let mut changes = set_space();
-    with_sizes(
-        &mut from,
-        &mut to,
-        number(h[0], h[1], h[2], h[3]),
-        number(h[4], h[5], h[6], h[7]),
-        &mut table,
-        &mut changes,
-    )
+    if a <= table.len() && b <= changes.len() {
+        show(&mut from, &mut to, &mut table[..a], &mut changes[..b])?;
+    }
+    Ok(())
 }
