@@ -1,8 +1,6 @@
 -- NO ANSWER TELLS OF A COMMIT: pair, heaviest and listing, these two in both modes, window, window_list and vet answer
 -- after a commit as they did before it, whether it was refused or not. The marks before and after are free at the same
 -- places, and who holds or has spent a branch never shows. It stands in this crate, which sees all of these operations.
-use Rattle.vetting.specs.Vets.{Vetted}
-use Rattle.paging.specs.Paging.{Listed}
 use Prim.Native.Nat.{ℕ}
 use mathlib.Core.Path.{◌≡◌, sym}
 use mathlib.Core.List.{List}
@@ -10,8 +8,10 @@ use lib.IntN.{ℤ}
 use Rattle.marks.proofs.Weights.{Alike}
 use Rattle.changes.specs.Change.{Commits, Change}
 use Rattle.changes.proofs.Freed.{Leaves, commit_alike}
+use Rattle.paging.specs.Paging.{Listed}
 use Rattle.pair.specs.Pair.{PairOf, PairAnswer}
 use Rattle.pair.proofs.Holders.{pair_holders}
+use Rattle.vetting.specs.Vets.{Vetted}
 use Rattle.heaviest.specs.Heaviest.{HeaviestWithin, HeaviestAnswer}
 use Rattle.heaviest.proofs.Holders.{heaviest_holders_never_show}
 use Rattle.listing.specs.Listing.{ListingWithin}

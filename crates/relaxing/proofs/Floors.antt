@@ -1,6 +1,5 @@
 -- A lower floor, under any length test: what qualifies for the higher floor qualifies for the lower one, so the higher
 -- floor's list is a sublist of the lower one's, and so are the rows that calls gave. No refusal asks for the floor.
-use Rattle.std.specs.Prelude.{Ok, Err}
 use Prim.Native.Nat.{ℕ, ◌/◌}
 use mathlib.Core.Path.{◌≡◌, refl, ap, ◌∙◌}
 use mathlib.Core.List.{List}
@@ -8,6 +7,7 @@ use native.Mathlib.Omega.{arith}
 use lib.IntN.{ℤ}
 use lib.ListN.{length}
 use lib.Signed.{◌≤ℤ◌}
+use Rattle.std.specs.Prelude.{Ok, Err}
 use Rattle.table.specs.Header.{nodes_of}
 use Rattle.table.proofs.Refusals.{unless_both}
 use Rattle.table.proofs.Order.{≤ℤ-trans}

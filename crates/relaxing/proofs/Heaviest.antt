@@ -1,12 +1,12 @@
 -- The heaviest of some pairs beside the heaviest of others. Where each of the first has one among the second that
 -- weighs no less, a run found stays found and weighs no less. Where there was none one may turn up; under other marks
 -- it does not, since the same pairs are within the length test. 1 to 11 and 13 refuse both alike.
-use Rattle.std.specs.Prelude.{Ok, Err}
 use Prim.Native.Nat.{ℕ}
 use mathlib.Core.Path.{◌≡◌, refl, sym}
 use mathlib.Core.List.{List}
 use lib.ListN.{length}
 use lib.Signed.{◌≤ℤ◌, ≤ℤ_refl}
+use Rattle.std.specs.Prelude.{Ok, Err}
 use Rattle.table.specs.Refuse.{Unless, refused, passed}
 use Rattle.table.specs.Header.{nodes_of}
 use Rattle.table.proofs.Refusals.{unless_both}

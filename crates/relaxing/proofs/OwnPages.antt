@@ -2,8 +2,6 @@
 -- the listing gave for the same table, marks and floor; so the pages of these calls are a yes, joined in any order. For
 -- what the calls gave is the listing (demand 3), each page is whole rows, and where a call gave rows the table is
 -- accepted and has a mark for each branch.
-use Rattle.vetting.specs.declared.Verdict.TheVariants.{Yes}
-use Rattle.std.specs.Prelude.{Ok, Err}
 use Prim.Native.Nat.{ℕ, ◌-◌, ◌*◌, ◌%◌, ◌≤◌}
 use mathlib.Core.Path.{◌≡◌, refl, sym, ◌∙◌}
 use mathlib.Core.Logic.{◌↔◌}
@@ -12,6 +10,7 @@ use native.Mathlib.Omega.{arith}
 use lib.IntN.{ℤ}
 use lib.ListN.{length, take}
 use lib.Seq.{length-take-le}
+use Rattle.std.specs.Prelude.{Ok, Err}
 use Rattle.arrays.specs.Members.{In, at, past}
 use Rattle.arrays.proofs.Members.{in_one}
 use Rattle.table.specs.Header.{nodes_of, bound_of}
@@ -24,6 +23,7 @@ use Rattle.paging.specs.Asks.{Asks, last, next, pages_of}
 use Rattle.paging.specs.Paging.{listing_refusal, Listed, listed}
 use Rattle.paging.proofs.Demand3.{there_is, join_up}
 use Rattle.paging.proofs.Only.{not_refused}
+use Rattle.vetting.specs.declared.Verdict.TheVariants.{Yes}
 use Rattle.listing.specs.Listing.{ListingOf}
 use Rattle.listing.proofs.Demand3.{listing_lists}
 use Rattle.listing.proofs.Few.{listing_room}

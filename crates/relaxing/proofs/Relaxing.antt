@@ -4,8 +4,6 @@
 -- outcomes beside whole outcomes. The exact mode of Req 02 is not meant: there a larger B can lose a run, and the
 -- smallest net that shows it stands at the end. (Floors, claims and aborts do as much in that mode: Floors and Heaviest
 -- are over any length test.)
-use Rattle.std.specs.Prelude.{Err}
-use Rattle.paging.specs.Paging.{Listed}
 use Prim.Native.Nat.{ℕ, ◌≤◌, ◌<◌}
 use mathlib.Core.Path.{◌≡◌, refl, sym}
 use mathlib.Core.Logic.{◌⊎◌, inl, inr, ◌≢◌}
@@ -14,11 +12,13 @@ use native.Mathlib.Omega.{arith}
 use lib.IntN.{ℤ, pos}
 use lib.Seq.{get_or-set_other}
 use lib.Signed.{◌≤ℤ◌}
+use Rattle.std.specs.Prelude.{Err}
 use Rattle.table.specs.Header.{bound_of}
 use Rattle.tree.specs.declared.Refusal.{Refusal}
 use Rattle.changes.specs.Change.{Commits, Aborts, Change}
 use Rattle.changes.specs.Claim.{Claims}
 use Rattle.changes.proofs.Freed.{claim_frees_none, abort_takes_none}
+use Rattle.paging.specs.Paging.{Listed}
 use Rattle.heaviest.specs.Heaviest.{heaviest_refusal, HeaviestOf, HeaviestExactOf, HeaviestAnswer, between}
 use Rattle.listing.specs.Listing.{ListingOf}
 use Rattle.worked.specs.Cases.{net2}

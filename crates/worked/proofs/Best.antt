@@ -1,7 +1,6 @@
 -- Heaviest, under any length test that computes: an outcome that passes the test is the one promised. The pair that it
 -- gives is held against every pair within the length test; the refusal for none finds none. Then the two length tests:
 -- at most B, and exactly B.
-use Rattle.std.specs.Prelude.{Ok, Err}
 use Prim.Native.Nat.{ℕ, ◌-◌, ◌≤◌}
 use mathlib.Core.Path.{◌≡◌}
 use mathlib.Core.Bool.{Bool, true, false}
@@ -9,6 +8,7 @@ use mathlib.Core.List.{List, [], ◌∷◌}
 use lib.Dec.{T, eqb, leb, eqb_refl, eqb→eq, leb→le, le→leb}
 use lib.IntN.{ℤ}
 use lib.ListN.{length}
+use Rattle.std.specs.Prelude.{Ok, Err}
 use Rattle.table.specs.Refuse.{passed, refused}
 use Rattle.table.specs.Header.{nodes_of}
 use Rattle.tree.specs.declared.Refusal.{Refusal}

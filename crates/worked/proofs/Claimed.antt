@@ -1,6 +1,5 @@
 -- Claim: an outcome that passes the test is the one promised. The way between the two nodes is the path; so what is too
 -- long, what is free on it and what becomes held are read off it.
-use Rattle.std.specs.Prelude.{Ok, Err}
 use Prim.Native.Nat.{ℕ, ◌-◌, ◌<◌}
 use mathlib.Core.Path.{◌≡◌, sym, ap, ◌∙◌}
 use mathlib.Core.Bool.{Bool, true, false, not, ◌&&◌, cond}
@@ -9,6 +8,7 @@ use native.Mathlib.Omega.{arith}
 use native.Mathlib.Decide.{dec_lt}
 use lib.Dec.{T, eqb, ltb, leb, eqb_refl, eqb→eq, ltb→lt, leb→le, T_not}
 use lib.ListN.{length, get_or-eq_default}
+use Rattle.std.specs.Prelude.{Ok, Err}
 use Rattle.arrays.specs.At.{at}
 use Rattle.table.specs.Refuse.{passed, refused}
 use Rattle.table.specs.Header.{nodes_of, bound_of}

@@ -1,5 +1,4 @@
 -- Heads and leaves: an outcome that passes the test is the one promised; a list that passes is that of the leaves.
-use Rattle.std.specs.Prelude.{Ok}
 use Prim.Native.Nat.{ℕ, ◌-◌, ◌<◌}
 use mathlib.Core.Path.{◌≡◌}
 use mathlib.Core.Logic.{◌⊎◌, inl, inr}
@@ -9,6 +8,7 @@ use native.Mathlib.Omega.{arith}
 use native.Mathlib.Decide.{ℕ_discrete}
 use lib.Dec.{T, eqb, ltb, eqb_refl, eqb→eq, ltb→lt, T_not, not_T}
 use lib.ListN.{length}
+use Rattle.std.specs.Prelude.{Ok}
 use Rattle.arrays.specs.At.{at}
 use Rattle.table.specs.Refuse.{passed}
 use Rattle.table.specs.Header.{nodes_of}

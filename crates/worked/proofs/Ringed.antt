@@ -1,6 +1,5 @@
 -- Acceptance that refuses by 11: an outcome that passes the test is the one promised. The rows before the row named
 -- make no ring, and the way between its ends goes along them alone; so its ring has that row and those of the way.
-use Rattle.std.specs.Prelude.{Err}
 use Prim.Native.Nat.{ℕ, ◌+◌, ◌-◌}
 use mathlib.Core.Path.{◌≡◌}
 use mathlib.Core.Bool.{Bool}
@@ -8,6 +7,7 @@ use mathlib.Core.List.{List, [], ◌∷◌}
 use native.Mathlib.Omega.{arith}
 use lib.Dec.{T, eqb, ltb, eqb→eq, ltb→lt}
 use lib.ListN.{length}
+use Rattle.std.specs.Prelude.{Err}
 use Rattle.table.specs.Header.{nodes_of}
 use Rattle.net.specs.Graph.{First, Walk, stop, go}
 use Rattle.net.specs.Net.{first_end, second_end}

@@ -1,7 +1,6 @@
 -- The claim: all starred cases of document 01, those of Req 01 and Req 03, and of ours three for Req 05 and two for
 -- Req 08, hold of the definitions. Each operation has a test that computes and a law that what passes it holds; the
 -- list is then a computation. Req 08's two have names too, by which they are cited.
-use Rattle.std.specs.Prelude.{Ok, Err}
 use Prim.Native.Nat.{ℕ, zero, suc}
 use mathlib.Core.Bool.{Bool, true, false, ◌&&◌}
 use mathlib.Core.List.{List, [], ◌∷◌}
@@ -9,6 +8,7 @@ use native.Mathlib.Decide.{ℕ_discrete, dec_le, dec_lt}
 use lib.Dec.{T}
 use lib.IntN.{pos}
 use lib.ListN.{get_or, drop}
+use Rattle.std.specs.Prelude.{Ok, Err}
 use Rattle.table.specs.Header.{bound_of}
 use Rattle.net.specs.Net.{first_end, second_end, length_of, weight_of}
 use Rattle.net.specs.Value.{Total}
