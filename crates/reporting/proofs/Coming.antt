@@ -1,11 +1,11 @@
 -- What went before and what is still to come: a text at the front of the lent bytes comes next, and then what follows
 -- it.
-use Rattle.std.specs.Prelude.{None}
 use Prim.Native.Nat.{ℕ, ◌+◌, ◌<◌}
 use mathlib.Core.Path.{◌≡◌, refl, sym}
 use mathlib.Core.List.{List, [], ◌∷◌, ◌++◌, append_assoc, append-nil}
 use native.Mathlib.Omega.{arith}
 use lib.ListN.{length, length-append}
+use Rattle.std.specs.Prelude.{None}
 use Rattle.text.specs.work.Put.{Put}
 use Rattle.text.proofs.Puts.{put_front}
 use Rattle.reporting.specs.declared.Piece.{Piece}

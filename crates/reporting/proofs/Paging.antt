@@ -1,7 +1,5 @@
 -- Pages one after the other: the lines of a page are those of its entries; what follows its last row is what the next
 -- page begins with, and that has a row; none left over: the last line comes.
-use Rattle.std.proofs.Common.{rules}
-use Rattle.std.specs.Prelude.{Ok, Err, IsOk}
 use Prim.Native.Nat.{ℕ, suc, ◌+◌, ◌-◌, ◌*◌, ◌/◌, ◌≤◌, ◌<◌}
 use mathlib.Core.Path.{◌≡◌, refl, sym, ap, ◌∙◌}
 use mathlib.Core.List.{List, [], ◌∷◌, ◌++◌, append_assoc, append-nil}
@@ -9,6 +7,8 @@ use native.Mathlib.Omega.{arith}
 use lib.IntN.{ℤ, pos}
 use lib.ListN.{length, drop, length-append, length-take, take-append-drop}
 use lib.Seq.{take_all}
+use Rattle.std.proofs.Common.{rules}
+use Rattle.std.specs.Prelude.{Ok, Err, IsOk}
 use Rattle.table.specs.Bytes.{u16_at}
 use Rattle.arrays.specs.Members.{In}
 use Rattle.pages.specs.Listing.{Entry, entry, Listing}

@@ -1,11 +1,11 @@
 -- From piece to piece: the lines of the page's next rows, of the page after it, or the last line.
-use Rattle.std.specs.Prelude.{Some}
 use Prim.Native.Nat.{ℕ, ◌+◌, ◌-◌, ◌*◌, ◌≤◌, ◌<◌}
 use mathlib.Core.Path.{◌≡◌, refl, ap, ◌∙◌}
 use mathlib.Core.List.{List}
 use native.Mathlib.Omega.{arith}
 use lib.ListN.{length, length-replicate}
 use lib.Seq.{length-take-le}
+use Rattle.std.specs.Prelude.{Some}
 use Rattle.table.specs.Bytes.{u16_at}
 use Rattle.tree.proofs.Begins.{admitted}
 use Rattle.pages.specs.Bytes.{entries}

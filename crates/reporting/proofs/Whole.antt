@@ -1,5 +1,4 @@
 -- From the outcomes of acceptance, heaviest and the first page to the whole report: it is there, and it is short.
-use Rattle.std.specs.Prelude.{Some}
 use Prim.Native.Nat.{ℕ, zero, suc, ◌+◌, ◌-◌, ◌≤◌, ◌<◌}
 use mathlib.Core.Path.{◌≡◌, refl, ap, ◌∙◌}
 use mathlib.Core.List.{List, ◌∷◌, ◌++◌}
@@ -9,6 +8,7 @@ use lib.ListN.{length, take, replicate, length-append, length-replicate}
 use mir.Syntax.{w64}
 use mir.Val.{SFits, to_z, of_z}
 use mir.ValLaws.{to_z-of_z}
+use Rattle.std.specs.Prelude.{Some}
 use Rattle.table.specs.Header.{nodes_of, bound_of}
 use Rattle.tree.specs.Accept.{acceptance, acceptance_refusal, Accepts}
 use Rattle.tree.proofs.Begins.{admitted}

@@ -1,11 +1,11 @@
 -- The report of a table with a change set. There is one, by the law of every promise with a set. A set of 6 bytes
 -- changes nothing: the report of the table itself, both ways, since 1 to 6 are said of it the same. And from what
 -- `write_in` gave: a refusal's line is the whole of it, and so is the report of the table in the buffer.
-use Rattle.std.specs.Prelude.{Ok, Err}
 use Prim.Native.Nat.{ℕ}
 use mathlib.Core.Path.{◌≡◌, sym, ap, ◌∙◌}
 use mathlib.Core.List.{List, [], ◌++◌, append-nil}
 use lib.ListN.{length, take}
+use Rattle.std.specs.Prelude.{Ok, Err}
 use Rattle.table.specs.Refuse.{Only, passed}
 use Rattle.table.specs.Refuse as unless
 use Rattle.table.specs.Header.{Header}
