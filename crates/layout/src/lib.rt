@@ -4,7 +4,7 @@
 // of crate figures any pair's path.
 #![tactic(auto)]
 
-ghost use Rattle.std.specs.Prelude.{◌<◌};
+ghost use Rattle.std.specs.Prelude.{◌≡◌, ◌<◌};
 ghost use Rattle.reach.specs.work.Grown.{Grown};
 ghost use Rattle.net.specs.Value.{Value};
 ghost use Rattle.spines.specs.work.Parents.{HeadsAll, SizesAll};
@@ -27,52 +27,47 @@ use spines::{heads_of, sizes_of};
 mod laid;
 mod seats;
 
-// The head, the size and the spot of each node. The main children stand where the next free spots then do.
+// The head, left in half, the size and the spot of each node. The main children stand where the next free spots then
+// do.
 fn number(
-    parent: &[u16; 4096],
-    order: &[u16; 4096],
-    place: &[u16; 4096],
+    walk: &mut Walk,
     n: usize,
-    head: &mut [u16; 4096],
     size: &mut [u16; 4096],
     spot: &mut [u16; 4096],
     next: &mut [u16; 4096],
 )
-    requires { Grown n parent.now order.now place.now }
-    ensures heads_all { HeadsAll n parent.now head.new }
-    ensures sizes_all { SizesAll n parent.now size.new }
-    ensures seating { Seating n parent.now place.now head.new size.new n
-        spot.new next.new }
+    requires { Grown n walk.old.parent walk.old.order walk.old.place }
+    ensures heads_all { HeadsAll n walk.old.parent walk.new.half }
+    ensures sizes_all { SizesAll n walk.old.parent size.new }
+    ensures seating { Seating n walk.old.parent walk.old.place walk.new.half size.new n spot.new next.new }
+    ensures parent { walk.new.parent ≡ walk.old.parent }
 {
-    heads_of(parent, order, n, next, head);
-    sizes_of(parent, order, n, size);
-    seats(parent, order, place, head, size, n, spot, next);
+    heads_of(&walk.parent, &walk.order, n, next, &mut walk.half);
+    sizes_of(&walk.parent, &walk.order, n, size);
+    seats(walk, size, n, spot, next);
 }
 
-// All that `whole` reads, by spot, each in an array that is not read by node any more: where spans end in stops, the
-// heads in size, the parents in head, the names in parent; d and w, the distance and the lifted weight of each node
+// All that `whole` reads, by spot, each in an array that is not read by node any more: where spans end in order, the
+// heads in size, the parents in half, the names in parent; d and w, the distance and the lifted weight of each node
 // from the root, in far and heavy.
 fn lay_out(
-    parent: &mut [u16; 4096],
-    head: &mut [u16; 4096],
+    walk: &mut Walk,
     size: &mut [u16; 4096],
     spot: &[u16; 4096],
     d: &[u64; 4096],
     w: &[u64; 4096],
     n: usize,
-    stops: &mut [u16; 4096],
     far: &mut [u64; 4096],
     heavy: &mut [u64; 4096],
 )
-    requires { Layable n parent.old head.old size.old spot.now }
-    ensures { LaidOut n parent.old head.old size.old spot.now
-        d.now w.now stops.new size.new head.new
-        parent.new far.new heavy.new }
+    requires { Layable n walk.old.parent walk.old.half size.old spot.now }
+    ensures { LaidOut n walk.old.parent walk.old.half size.old spot.now d.now w.now
+        walk.new.order size.new walk.new.half walk.new.parent far.new heavy.new }
 {
-    lay_stops(spot, size, n, stops);
-    lay_spots(spot, head, n, size);
-    lay_spots(spot, parent, n, head);
-    lay_names(spot, n, parent);
+    lay_stops(spot, size, n, &mut walk.order);
+    lay_spots(spot, &walk.half, n, size);
+    lay_spots(spot, &walk.parent, n, &mut walk.half);
+    lay_names(spot, n, &mut walk.parent);
     lay_long(spot, d, n, far);
     lay_long(spot, w, n, heavy);
 }
@@ -108,30 +103,8 @@ pub fn heaviest_pair(
         bw,
     };
     swept.paths_from(0, &mut next, &mut d, &mut w);
-    number(
-        &walk.parent,
-        &walk.order,
-        &walk.place,
-        n,
-        &mut walk.half,
-        &mut size,
-        &mut spot,
-        &mut next,
-    );
-    // By spot: where spans end in order, heads in size, parents in half, names in parent, distances in bl, weights in
-    // bw.
-    lay_out(
-        &mut walk.parent,
-        &mut walk.half,
-        &mut size,
-        &spot,
-        &d,
-        &w,
-        n,
-        &mut walk.order,
-        bl,
-        bw,
-    );
+    number(walk, n, &mut size, &mut spot, &mut next);
+    lay_out(walk, &mut size, &spot, &d, &w, n, bl, bw);
     let spots = Spots {
         stop: &walk.order,
         head: &size,
@@ -155,24 +128,19 @@ pub fn heaviest_pair(
 }
 
 // Between crates: each node's spot, in spot, and by spot what tells the path between any two nodes: the spot of the
-// parent, left in order, and the distance and the lifted weight from node 0, left in bl and bw. What those held is
-// lost.
+// parent, left in order, and the distance and the lifted weight from node 0, left in bl and bw. What those held, and
+// half, is lost.
 pub fn spots_of(
-    parent: &[u16; 4096],
-    order: &mut [u16; 4096],
-    place: &[u16; 4096],
+    walk: &mut Walk,
     bl: &mut [u64; 4096],
     bw: &mut [u64; 4096],
     n: usize,
     spot: &mut [u16; 4096],
 )
-    requires { Ground n parent.now order.old place.now bl.old bw.old }
-    ensures { (g : Ground n parent.now order.old place.now bl.old
-        bw.old)
-        → Spotted (Value g.u g.v g.k g.long g.heavy) n spot.new order.new
-        bl.new bw.new }
+    requires { Ground n walk.old.parent walk.old.order walk.old.place bl.old bw.old }
+    ensures { (g : Ground n walk.old.parent walk.old.order walk.old.place bl.old bw.old)
+        → Spotted (Value g.u g.v g.k g.long g.heavy) n spot.new walk.new.order bl.new bw.new }
 {
-    let mut head: [u16; 4096] = [0; 4096];
     let mut size: [u16; 4096] = [0; 4096];
     let mut next: [u16; 4096] = [0; 4096];
     let mut d: [u64; 4096] = [0; 4096];
@@ -180,17 +148,15 @@ pub fn spots_of(
     // next has the flags of the paths, then main children, then next free spots.
     let swept = Swept {
         n,
-        parent,
-        order,
-        place,
+        parent: &walk.parent,
+        order: &walk.order,
+        place: &walk.place,
         bl,
         bw,
     };
     swept.paths_from(0, &mut next, &mut d, &mut w);
-    number(
-        parent, order, place, n, &mut head, &mut size, spot, &mut next,
-    );
-    lay_spots(spot, parent, n, order);
+    number(walk, n, &mut size, spot, &mut next);
+    lay_spots(spot, &walk.parent, n, &mut walk.order);
     lay_long(spot, &d, n, bl);
     lay_long(spot, &w, n, bw);
 }

@@ -7,7 +7,7 @@ pub lay_spots-requires : goal.lay_spots-requires
 lay_spots-requires c =
     let pre = c.requires in
     let l = layable pre.grown c.number.ensures.heads_all c.number.ensures.sizes_all c.number.ensures.seating in
-    record { spots = l.spots; by_index = l.parents }
+    record { spots = l.spots; by_index = rw c.number.ensures.parent l.parents }
 
 pub lay_long-requires : goal.lay_long-requires
 lay_long-requires c =
@@ -22,7 +22,7 @@ lay_long-requires-2 c =
 pub returns : goal.returns
 returns c =
     let lay-long-ensures = c.lay_long.ensures in
-    let lay-spots-ensures = c.lay_spots.ensures in
+    let lay-spots-ensures = rw c.number.ensures.parent at c.lay_spots.ensures in
     let paths-from-ensures = c.paths_from.ensures in
     λ g.
     let s = c.number.ensures in
