@@ -31,13 +31,7 @@ pub type HeaviestAnswer = Result<Between, Refusal>;
 
 // The best pair of an accepted net, its length and weight lifted by 2^40; weight 0 is none. Of the walk half
 // then serves for the heads.
-fn search(
-    s: &[u8],
-    marks: &[u16],
-    nodes: u16,
-    limit: Limit,
-    walk: &mut Walk,
-) -> Best
+fn search(s: &[u8], marks: &[u16], nodes: u16, limit: Limit, walk: &mut Walk) -> Best
     requires net { Net s.now nodes }
     requires most_bound { limit.most < 4294967296 }
     ensures { BestPair (PathOf s.now marks.now nodes) nodes (Fits limit) result }
