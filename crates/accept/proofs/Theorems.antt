@@ -75,7 +75,8 @@ not_refused e = omega (arith, ap refusals e)
     refusals (Err w) = 1
 
 -- THE COUNT, of an accepted table
-pub filler_counted : (s : List ℕ) {n b k : ℕ} → AcceptOf s (accept_answer n b k) → Count (FillerBelow s (nodes_of s - 1)) k
+pub filler_counted : (s : List ℕ) {n b k : ℕ} → AcceptOf s (accept_answer n b k) → Count (FillerBelow s (nodes_of s -
+    1)) k
 filler_counted s p = (begins_past accept_refusal s (λ k r g. not_refused) p).1.2
 
 -- blocked ground and what the score table has are no filler, also where they weigh 0

@@ -93,7 +93,8 @@ module _ (kind : Kind) (s : List ℕ) (at : ℕ) where
           let q = (here all start p h).is in
           let f = ap (λ (e : Arc). e.from) q in
           let g = ap (λ (e : Arc). e.to) q in
-          chunk_more (arcs_of all) start t y chunk b (omega arith) (omega (arith, g, step_fits step, d)) (omega (arith, ek, f, g))
+          chunk_more (arcs_of all) start t y chunk b (omega arith) (omega (arith, g, step_fits step, d)) (omega
+          (arith, ek, f, g))
           (en ∙ ap (λ (e : Arc). e.number) q) (l.stands all start p (omega arith))
 
   -- the text does not end before the arcs to be copied

@@ -2,7 +2,17 @@
 // number of 64 bits: its two nodes, 16 bits each, which are its key, and below them the 32 bits of its number.
 ghost use Rattle.std.specs.Prelude.{◌≡◌, ◌+◌, ◌*◌, ◌/◌, ◌%◌, ◌≤◌, ◌<◌, length};
 ghost use Rattle.roads.specs.work.Line.{KindFits};
-ghost use Rattle.arcs.specs.work.Chunk.{turned_key, key_at, bucket, Loaded, link, LastAt, Buckets, Searchable, ChunkEnd};
+ghost use Rattle.arcs.specs.work.Chunk.{
+  turned_key,
+  key_at,
+  bucket,
+  Loaded,
+  link,
+  LastAt,
+  Buckets,
+  Searchable,
+  ChunkEnd,
+};
 
 use roads::{Kind, Step, next_arc};
 

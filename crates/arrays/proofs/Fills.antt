@@ -1,4 +1,5 @@
--- `[v; m]` is filled with v, and so is what `fill(v)` leaves of an array of m places; no other list is: two lists of one
+-- `[v; m]` is filled with v, and so is what `fill(v)` leaves of an array of m places; no other list is: two lists of
+-- one
 -- length whose elements agree are equal.
 use Prim.Native.Nat.{ℕ}
 use mathlib.Core.Path.{◌≡◌, sym, ◌∙◌}

@@ -16,7 +16,17 @@ use Rattle.table.proofs.Refusals.{past}
 use Rattle.tree.specs.Accept.{Accepts, acceptance}
 use Rattle.tree.proofs.Begins.{begins_past, begins_rest}
 use Rattle.pages.specs.Listing.{Entry, entry, Before}
-use Rattle.heaviest.specs.Heaviest.{HeaviestAnswer, heaviest_refusal, PairsWithin, Heaviest, Chooses, HeaviestWithin, HeaviestOf, HeaviestExactOf, between}
+use Rattle.heaviest.specs.Heaviest.{
+  HeaviestAnswer,
+  heaviest_refusal,
+  PairsWithin,
+  Heaviest,
+  Chooses,
+  HeaviestWithin,
+  HeaviestOf,
+  HeaviestExactOf,
+  between,
+}
 use Rattle.std.specs.Prelude.{Ok, Err}
 
 -- the pairs of the table's net that pass the length test; within its bound; of exactly its length

@@ -9,7 +9,14 @@ use Rattle.table.proofs.Refusals.{unless_map, unless_alike}
 use Rattle.tree.proofs.Begins.{begins_alike}
 use Rattle.marks.proofs.Weights.{Alike}
 use Rattle.pages.specs.Listing.{Entry}
-use Rattle.heaviest.specs.Heaviest.{HeaviestAnswer, heaviest_refusal, PairsWithin, GivesHeaviest, Chooses, HeaviestWithin}
+use Rattle.heaviest.specs.Heaviest.{
+  HeaviestAnswer,
+  heaviest_refusal,
+  PairsWithin,
+  GivesHeaviest,
+  Chooses,
+  HeaviestWithin,
+}
 use Rattle.std.specs.Prelude.{Ok, Err}
 use Rattle.ground.proofs.Alike.{passes_alike, flip}
 use Rattle.heaviest.proofs.Only.{goes_only}

@@ -13,7 +13,17 @@ use Rattle.table.proofs.Refusals.{unless_only}
 use Rattle.tree.proofs.Begins.{begins_only}
 use Rattle.pages.specs.Listing.{Entry, entry}
 use Rattle.pages.proofs.Order.{one_pair}
-use Rattle.heaviest.specs.Heaviest.{heaviest_refusal, AtLeast, Heaviest, GivesHeaviest, Chooses, HeaviestWithin, HeaviestOf, HeaviestExactOf, between}
+use Rattle.heaviest.specs.Heaviest.{
+  heaviest_refusal,
+  AtLeast,
+  Heaviest,
+  GivesHeaviest,
+  Chooses,
+  HeaviestWithin,
+  HeaviestOf,
+  HeaviestExactOf,
+  between,
+}
 use Rattle.std.specs.Prelude.{Ok, Err}
 
 pub level : (y z : ℤ) → y ≤ℤ z → z ≤ℤ y → y ≡ z

@@ -111,7 +111,8 @@ module _ {Call : ℕ → ℕ → List ℕ → Listed × List ℕ → Type 0} {Va
 
   -- At each call rows written and rows left add up to what follows its starting pair.
   pub add_up : {low high written left : ℕ} {old bytes : List ℕ} {whole : List Entry}
-      → Call low high old (listed written left, bytes) → Listing (Following (Passes Value Within Heavy n) low high) whole
+      → Call low high old (listed written left, bytes) → Listing (Following (Passes Value Within Heavy n) low high)
+      whole
       → written + left ≡ length whole
   add_up p w = pages.calls_add_up (lists.gives p).page w
 

@@ -11,7 +11,8 @@ use tree::Refusal;
 
 fn refuse<W: Write>(to: &mut W, asked: &Asked, line: &mut [u8], why: Refusal) -> io::Result<Handed>
     requires { (128 ≤ length line.old)
-        × Tells asked.now.way asked.now.first.now asked.now.second.now asked.now.bound (refused_text why.number why.row why.ring) }
+        × Tells asked.now.way asked.now.first.now asked.now.second.now asked.now.bound (refused_text why.number
+        why.row why.ring) }
     ensures counted { IfOk result (λ handed. HandedOver asked.now.way asked.now.first.now asked.now.second.now
         asked.now.bound handed.one handed.two) }
     ensures written { OnOk result (Writes asked.now.way asked.now.first.now asked.now.second.now asked.now.bound
@@ -30,7 +31,8 @@ fn give_table<W: Write>(
     table: &[u8],
 ) -> io::Result<Handed>
     requires { (128 ≤ length line.old)
-        × Tells asked.now.way asked.now.first.now asked.now.second.now asked.now.bound (sized (length table.now) table.now) }
+        × Tells asked.now.way asked.now.first.now asked.now.second.now asked.now.bound (sized (length table.now)
+        table.now) }
     ensures counted { IfOk result (λ handed. HandedOver asked.now.way asked.now.first.now asked.now.second.now
         asked.now.bound handed.one handed.two) }
     ensures written { OnOk result (Writes asked.now.way asked.now.first.now asked.now.second.now asked.now.bound
@@ -51,7 +53,8 @@ fn give_texts<W: Write>(
     weights: &[u8],
 ) -> io::Result<Handed>
     requires { (128 ≤ length line.old) × (128 ≤ length other.old)
-        × Tells asked.now.way asked.now.first.now asked.now.second.now asked.now.bound (sized (length lengths.now) lengths.now ++ sized (length weights.now) weights.now) }
+        × Tells asked.now.way asked.now.first.now asked.now.second.now asked.now.bound (sized (length lengths.now)
+        lengths.now ++ sized (length weights.now) weights.now) }
     ensures counted { IfOk result (λ handed. HandedOver asked.now.way asked.now.first.now asked.now.second.now
         asked.now.bound handed.one handed.two) }
     ensures written { OnOk result (Writes asked.now.way asked.now.first.now asked.now.second.now asked.now.bound

@@ -22,7 +22,8 @@ module _ (s marks marks' : List ℕ) (h : Alike marks marks') (e : length marks 
       rw (← e)
       (unless_map (λ o. o)
       (λ _. unless_map (λ o. o)
-      (λ _. verdict_iff (passes_alike s marks marks' h n) (passes_alike s marks' marks (flip marks marks' h) n) list _ x))
+      (λ _. verdict_iff (passes_alike s marks marks' h n) (passes_alike s marks' marks (flip marks marks' h) n) list _
+      x))
       p)
 
   pub vet_holders_never_show : (x y : Vetted) → VetOf s marks floor list x → VetOf s marks' floor list y → x ≡ y

@@ -43,11 +43,12 @@ module _ (s marks : List ℕ) (w : Window) where
 
   -- FROM ITS OWN PREMISE: an accepted table, a mark for each branch, a window whose limits are in order, calls that
   -- each lend room for a row.
-  module _ (a : Accepts s (acceptance (nodes_of s) (bound_of s))) (m : length marks ≡ nodes_of s - 1) (o : Proper w) where
-    -- No such call is refused.
-    pub answered : {low high : ℕ} {old bytes : List ℕ} {why : Refusal} → 16 ≤ length old
-        → WindowListOf s marks w low high old (Err why, bytes) → ⊥
-    answered {old = old} h p = settled h (settled o (settled m (begins_rest (listing_refusal old) s a p)))
+  module _ (a : Accepts s (acceptance (nodes_of s) (bound_of s))) (m : length marks ≡ nodes_of s - 1) (o : Proper w)
+    where
+      -- No such call is refused.
+      pub answered : {low high : ℕ} {old bytes : List ℕ} {why : Refusal} → 16 ≤ length old
+          → WindowListOf s marks w low high old (Err why, bytes) → ⊥
+      answered {old = old} h p = settled h (settled o (settled m (begins_rest (listing_refusal old) s a p)))
 
-    pub window_list_joins_up : JoinsUp (WindowListOf s marks w) (AsMany s marks (nodes_of s) w)
-    window_list_joins_up = demand_3 window_lists (λ _ _ _ _ _ h p. answered h p)
+      pub window_list_joins_up : JoinsUp (WindowListOf s marks w) (AsMany s marks (nodes_of s) w)
+      window_list_joins_up = demand_3 window_lists (λ _ _ _ _ _ h p. answered h p)

@@ -18,7 +18,17 @@ use Rattle.pages.proofs.Order.{one_pair}
 use Rattle.paging.specs.Paging.{listing_refusal}
 use Rattle.paging.specs.Paging.{listed}
 use Rattle.paging.proofs.Only.{gives_only, not_refused}
-use Rattle.window.specs.Window.{Window, BranchCount, InWindow, MostOf, window_refusal, GivesMost, Picks, WindowOf, given_most}
+use Rattle.window.specs.Window.{
+  Window,
+  BranchCount,
+  InWindow,
+  MostOf,
+  window_refusal,
+  GivesMost,
+  Picks,
+  WindowOf,
+  given_most,
+}
 use Rattle.window.specs.List.{AsMany, ListsMost, WindowListOf}
 use Rattle.std.specs.Prelude.{Ok, Err}
 

@@ -20,7 +20,18 @@ use Rattle.tree.proofs.Begins.{begins_past, begins_rest}
 use Rattle.pages.specs.Listing.{Entry, entry, After, first, second, Listing}
 use Rattle.pages.proofs.Rising.{rising_head}
 use Rattle.ground.specs.PathOf.{PathOf}
-use Rattle.window.specs.Window.{WindowAnswer, Window, Proper, BranchCount, InWindow, MostOf, window_refusal, Picks, WindowOf, given_most}
+use Rattle.window.specs.Window.{
+  WindowAnswer,
+  Window,
+  Proper,
+  BranchCount,
+  InWindow,
+  MostOf,
+  window_refusal,
+  Picks,
+  WindowOf,
+  given_most,
+}
 use Rattle.window.specs.List.{AsMany}
 use Rattle.std.specs.Prelude.{Ok, Err}
 use Rattle.window.proofs.Counting.{length_of_lem}

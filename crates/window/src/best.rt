@@ -111,7 +111,8 @@ pub(crate) fn best(
     wt: &mut [u64; 4096],
     hits: &mut [u16; 4096],
 ) -> Found
-    requires { Ground ones.now.n ones.now.parent.now ones.now.order.now ones.now.place.now ones.now.bl.now ones.now.bw.now
+    requires { Ground ones.now.n ones.now.parent.now ones.now.order.now ones.now.place.now ones.now.bl.now
+        ones.now.bw.now
         × ArraysLent above.old key.old wt.old }
     ensures { ((g : Stand ones.now.n ones.now.parent.now ones.now.order.now ones.now.place.now ones.now.bl.now
         ones.now.bw.now sums)

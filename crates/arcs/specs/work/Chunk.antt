@@ -1,5 +1,25 @@
 -- A chunk: up to 8,192 arcs of a text, copied into an array and found again by their nodes.
-use Rattle.std.specs.Prelude.{ℕ, ◌+◌, ◌-◌, ◌*◌, ◌/◌, ◌%◌, ◌≤◌, ◌<◌, ◌≡◌, Bool, true, false, ◌≢◌, List, length, drop, Option, Some, None}
+use Rattle.std.specs.Prelude.{
+  ℕ,
+  ◌+◌,
+  ◌-◌,
+  ◌*◌,
+  ◌/◌,
+  ◌%◌,
+  ◌≤◌,
+  ◌<◌,
+  ◌≡◌,
+  Bool,
+  true,
+  false,
+  ◌≢◌,
+  List,
+  length,
+  drop,
+  Option,
+  Some,
+  None,
+}
 use Rattle.arrays.specs.At.{at}
 use Rattle.roads.specs.Text.{Arc, Lines}
 use Rattle.arcs.specs.Arcs.{Arcs, arcs_of}

@@ -15,4 +15,5 @@ returns-in_err-net c =
 pub returns : goal.returns
 returns c =
     let p = c.in_ok-net.ensures in
-    passed_on (heads_refusal c.args.list.now) c.args.s.now _ _ p (rw (admitted c.args.s.now _ _ p).nodes at c.list_heads.ensures)
+    passed_on (heads_refusal c.args.list.now) c.args.s.now _ _ p (rw (admitted c.args.s.now _ _ p).nodes at
+    c.list_heads.ensures)

@@ -58,7 +58,12 @@ overflow_cast-result-2 c =
 pub overflow_cast-result-3 : goal.overflow_cast-result-3
 overflow_cast-result-3 c =
     let here = (goal.at.overflow_cast-result-3 c).After-search-b in
-    omega (arith, count_fits _ _ (asked here) c.requires (best_is here) (omega arith), c.proper.ensures.1 c.if-not-proper.false)
+    omega (
+      arith,
+      count_fits _ _ (asked here) c.requires (best_is here) (omega arith),
+      c.proper.ensures.1
+          c.if-not-proper.false,
+    )
 
 pub returns : goal.returns
 returns c =

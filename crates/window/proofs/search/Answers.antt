@@ -20,5 +20,6 @@ pub returns : goal.returns
 returns c =
     let counts = c.counts-counts.ensures in
     let sums = c.sums-sums.ensures in
-    window_best (omega arith) c.from-n.ensures c.grounded.ensures (filled_by c.grounded.array_long c.fill.ensures.after) counts.0 counts.1 sums.0 sums.1
+    window_best (omega arith) c.from-n.ensures c.grounded.ensures (filled_by c.grounded.array_long
+    c.fill.ensures.after) counts.0 counts.1 sums.0 sums.1
     c.best.ensures.0

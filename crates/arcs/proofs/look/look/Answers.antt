@@ -34,7 +34,8 @@ loop-t-preserved c =
             c.match-find.array_long,
             rw w.seen-is
                 (looking_hit _ _ _ _ _ _ c.loop-t.t _ _ (omega arith) back h.1 _
-                (λ e. c.if-key-back.false (c.key_of-key.ensures ∙ e)) w.in-Some.ensures c.requires.2.buckets.few q.0 q.1),
+                (λ e. c.if-key-back.false (c.key_of-key.ensures ∙ e)) w.in-Some.ensures c.requires.2.buckets.few q.0
+                q.1),
           )
       | in_default w ↦ (
         c.match-find.array_long,

@@ -8,4 +8,5 @@ returns-then-look c =
     whole_told (filled _ _) c.requires.2.buckets.few c.look.ensures.1 c.if-look.true c.all_seen.ensures
 
 pub returns-else-look : goal.returns-else-look
-returns-else-look c = rw c.if-look.false (whole_fault (filled _ _) c.requires.2.buckets.few c.look.ensures.1 c.if-look.false)
+returns-else-look c = rw c.if-look.false (whole_fault (filled _ _) c.requires.2.buckets.few c.look.ensures.1
+    c.if-look.false)

@@ -14,7 +14,8 @@ returns-then-not-meets c =
       | then-not-meets-via-then-not-meets w ↦
           decided_first (arcs_fit p.0 t) (arcs_fit p.1 u) w.if-not-meets.true (c.meets.ensures x t x t)
       | then-not-meets-via-else-not-meets+then-not-meets-2 w ↦
-          decided_second (arcs_fit p.0 t) (arcs_fit p.1 u) w.if-not-meets-2.true (w.meets-else-not-meets.ensures y u y u)
+          decided_second (arcs_fit p.0 t) (arcs_fit p.1 u) w.if-not-meets-2.true (w.meets-else-not-meets.ensures y u y
+          u)
     ]
 
 pub returns-then-not-meets-3 : goal.returns-then-not-meets-3

@@ -13,4 +13,5 @@ returns-in_err-accept c =
 
 pub returns : goal.returns
 returns c =
-    passed_on (read_refusal c.args.table.now) c.args.made.now _ _ c.in_ok-accept.ensures (copied_given c.put_word.ensures)
+    passed_on (read_refusal c.args.table.now) c.args.made.now _ _ c.in_ok-accept.ensures (copied_given
+    c.put_word.ensures)

@@ -3,7 +3,17 @@
 use Prim.Native.Nat.{ℕ}
 use native.Mathlib.Omega.{arith}
 use lib.ListN.{length-replicate}
-use Rattle.dimacs.proofs.Traded.{lengths_from, weights_from, header_in, header_long, arcs_refused, room_refused, many_tested, part_long, table_tested}
+use Rattle.dimacs.proofs.Traded.{
+  lengths_from,
+  weights_from,
+  header_in,
+  header_long,
+  arcs_refused,
+  room_refused,
+  many_tested,
+  part_long,
+  table_tested,
+}
 use Rattle.dimacs.proofs.reading.trade.Goals as goal
 
 pub rows-requires : goal.rows-requires
@@ -34,18 +44,21 @@ returns-then-arcs-gt8190 c =
 
 pub slice_bounds-give-end : goal.slice_bounds-give-end
 slice_bounds-give-end c =
-    part_long c.requires c.args.bound c.args.table.now (c.in_default.ensures _ (lengths_from c.requires) _ (weights_from c.requires))
+    part_long c.requires c.args.bound c.args.table.now (c.in_default.ensures _ (lengths_from c.requires) _
+    (weights_from c.requires))
     (omega arith) (header_in _ (length-replicate {A = ℕ} 49152 0) c.put_header.ensures)
 
 pub give-requires : goal.give-requires
 give-requires c =
     let room = c.no_room.ensures.1 c.if-no_room.false in
-    let part = part_long c.requires c.args.bound c.args.table.now (c.in_default.ensures _ (lengths_from c.requires) _ (weights_from c.requires))
+    let part = part_long c.requires c.args.bound c.args.table.now (c.in_default.ensures _ (lengths_from c.requires) _
+    (weights_from c.requires))
     (omega arith) (header_in _ (length-replicate {A = ℕ} 49152 0) c.put_header.ensures) in
     omega (arith, room, part)
 
 pub returns : goal.returns
 returns c =
-    table_tested c.requires _ _ (c.in_default.ensures _ (lengths_from c.requires) _ (weights_from c.requires)) (omega arith)
+    table_tested c.requires _ _ (c.in_default.ensures _ (lengths_from c.requires) _ (weights_from c.requires)) (omega
+    arith)
     (header_in _ (length-replicate {A = ℕ} 49152 0) c.put_header.ensures) (c.no_room.ensures.1 c.if-no_room.false)
     c.give.ensures

@@ -9,7 +9,8 @@ use Rattle.listing.proofs.scan.firsts.Given as goal
 
 abbrev pub invariant-loop-u : goal.invariant-loop-u
 invariant-loop-u l =
-    Scanning (Ground l.swept.n l.swept.parent.now l.swept.order.now l.swept.place.now l.swept.bl.now l.swept.bw.now) (Taken l.swept.n l.swept.parent.now l.swept.order.now l.swept.place.now l.swept.bl.now l.swept.bw.now
+    Scanning (Ground l.swept.n l.swept.parent.now l.swept.order.now l.swept.place.now l.swept.bl.now l.swept.bw.now)
+    (Taken l.swept.n l.swept.parent.now l.swept.order.now l.swept.place.now l.swept.bl.now l.swept.bw.now
     (Fits l.limit) l.floor) l.low
     l.high l.initial.rows l.room l.u l.k.given l.k.left l.rows
     × ArraysLent l.above l.len l.wt

@@ -7,5 +7,7 @@ use Rattle.paths.proofs.Swept.sweep.Given as goal
 
 abbrev pub invariant-loop-i : goal.invariant-loop-i
 invariant-loop-i l =
-    Sweeping l.self.n l.a l.fn.top.length l.fn.top.weight l.self.parent.now l.self.order.now l.self.bl.now l.self.bw.now l.above l.i l.len l.wt
-    × Sweepable l.self.n l.a l.fn.top.length l.fn.top.weight l.self.parent.now l.self.order.now l.self.bl.now l.self.bw.now l.above × (0 < l.i)
+    Sweeping l.self.n l.a l.fn.top.length l.fn.top.weight l.self.parent.now l.self.order.now l.self.bl.now
+    l.self.bw.now l.above l.i l.len l.wt
+    × Sweepable l.self.n l.a l.fn.top.length l.fn.top.weight l.self.parent.now l.self.order.now l.self.bl.now
+    l.self.bw.now l.above × (0 < l.i)

@@ -16,4 +16,5 @@ returns-then-lengths-weights c =
 
 pub returns : goal.returns
 returns c =
-    agree (omega arith) (omega arith) c.in-Some.ensures c.in-Some-survey_of.ensures (omega arith) (omega arith) (omega arith) (omega arith)
+    agree (omega arith) (omega arith) c.in-Some.ensures c.in-Some-survey_of.ensures (omega arith) (omega arith) (omega
+    arith) (omega arith)

@@ -1,6 +1,17 @@
 use native.Mathlib.Omega.{arith}
 use Rattle.vetting.proofs.Belonging.{meant_paired}
-use Rattle.vetting.proofs.Standing.{asked_numbers, blocks_start, block_of, repeatable, known_open, blocks_skip, blocks_next, verdict_fault, verdict_yes, verdict_missing}
+use Rattle.vetting.proofs.Standing.{
+  asked_numbers,
+  blocks_start,
+  block_of,
+  repeatable,
+  known_open,
+  blocks_skip,
+  blocks_next,
+  verdict_fault,
+  verdict_yes,
+  verdict_missing,
+}
 use Rattle.vetting.proofs.blocks.screen.Goals as goal
 
 pub nonzero_div-height : goal.nonzero_div-height
