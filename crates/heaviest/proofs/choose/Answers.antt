@@ -15,9 +15,9 @@ returns-then-marks-n c =
 
 pub returns-then-b-eq0 : goal.returns-then-b-eq0
 returns-then-b-eq0 c =
-    let wide-ensures = c.from-n.ensures in
+    let from-ensures = c.from-n.ensures in
     let args = c.args in
-    (passed (omega (arith, wide-ensures))
+    (passed (omega (arith, from-ensures))
     (refused (none_within _ args.marks.now c.requires.net c.search-b.ensures (omega arith))))
 
 pub overflow_cast-low : goal.overflow_cast-low
@@ -62,9 +62,9 @@ returns c =
     let search-ensures = c.search-b.ensures in
     let search-result = c.search-b.result in
     let if1-left = c.if-marks-n.false in
-    let wide-ensures = c.from-n.ensures in
+    let from-ensures = c.from-n.ensures in
     let args = c.args in
     let m : search-result.weight ≢ 0 = omega arith in
     let r = run_given _ args.marks.now c.requires.net search-ensures m _ c.lowered-weight.ensures in
     let e = to_z-of_z w64 c.lowered-weight.result (record { sfits = c.lowered-weight.type_inv }) in
-    rw e (passed (omega (arith, if1-left, wide-ensures)) (passed (_, r.one) r))
+    rw e (passed (omega (arith, if1-left, from-ensures)) (passed (_, r.one) r))

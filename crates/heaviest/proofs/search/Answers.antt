@@ -5,9 +5,9 @@ use Rattle.heaviest.proofs.search.Goals as goal
 
 pub heaviest_pair-requires : goal.heaviest_pair-requires
 heaviest_pair-requires c =
-    let wide-ensures = c.from.ensures in
+    let from-ensures = c.from.ensures in
     let grounded-ensures = c.grounded.ensures in
-    record { ground = rw wide-ensures (ground grounded-ensures); most_bound = c.requires.most_bound }
+    record { ground = rw from-ensures (ground grounded-ensures); most_bound = c.requires.most_bound }
 
 pub returns : goal.returns
 returns c =

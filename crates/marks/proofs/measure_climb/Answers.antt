@@ -78,13 +78,13 @@ pub loop-v-preserved : goal.loop-v-preserved
 loop-v-preserved c =
     let lifted-under-ensures = c.lifted_under.ensures in
     let row-at-ensures = c.row_at.ensures in
-    let wide-ensures = c.from-r.ensures in
+    let from-ensures = c.from-r.ensures in
     let loop-test-taken = c.loop-v-test.true in
     let loop-inv = c.loop-v.invariant in
     let args = c.args in
     let pre = c.requires in
     measuring_step args.s.now pre.1 pre.0.many loop-inv loop-test-taken
-    (ap (λ (z : ℕ). z / 2) wide-ensures) row-at-ensures c.from-length.ensures lifted-under-ensures c.from.ensures
+    (ap (λ (z : ℕ). z / 2) from-ensures) row-at-ensures c.from-length.ensures lifted-under-ensures c.from.ensures
     c.one_free-free.ensures c.from-v.ensures
 
 pub returns : goal.returns

@@ -19,6 +19,6 @@ show-requires c =
 
 pub returns : goal.returns
 returns c =
-    let wide-ensures = c.from-n.ensures in
-    passed (omega (arith, wide-ensures))
+    let from-ensures = c.from-n.ensures in
+    passed (omega (arith, from-ensures))
     (passed (record { first = omega arith; second = omega arith; apart = λ e. omega (arith, e) }) c.show.ensures)

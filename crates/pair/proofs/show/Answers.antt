@@ -9,42 +9,42 @@ use Rattle.pair.proofs.show.Goals as goal
 pub way_between-way-requires : goal.way_between-way-requires
 way_between-way-requires c =
     let walk-ensures = c.walk.ensures in
-    let wide3-ensures = c.from-y.ensures in
-    let wide2-ensures = c.from-x.ensures in
-    let wide-ensures = c.from-n.ensures in
+    let from3-ensures = c.from-y.ensures in
+    let from2-ensures = c.from-x.ensures in
+    let from-ensures = c.from-n.ensures in
     let pre = c.requires in
-    pair_asks wide-ensures wide2-ensures wide3-ensures pre.0 pre.2 walk-ensures pre.1
+    pair_asks from-ensures from2-ensures from3-ensures pre.0 pre.2 walk-ensures pre.1
 
 pub heads_of-requires : goal.heads_of-requires
 heads_of-requires c =
     let walk-ensures = c.walk.ensures in
-    let wide3-ensures = c.from-y.ensures in
-    let wide2-ensures = c.from-x.ensures in
-    let wide-ensures = c.from-n.ensures in
+    let from3-ensures = c.from-y.ensures in
+    let from2-ensures = c.from-x.ensures in
+    let from-ensures = c.from-n.ensures in
     let pre = c.requires in
-    ordered (pair_grown wide-ensures wide2-ensures wide3-ensures pre.0 pre.2 walk-ensures)
+    ordered (pair_grown from-ensures from2-ensures from3-ensures pre.0 pre.2 walk-ensures)
 
 pub hops-hops-requires : goal.hops-hops-requires
 hops-hops-requires c =
     let heads-of-ensures = c.heads_of.ensures in
     let walk-ensures = c.walk.ensures in
-    let wide3-ensures = c.from-y.ensures in
-    let wide2-ensures = c.from-x.ensures in
-    let wide-ensures = c.from-n.ensures in
+    let from3-ensures = c.from-y.ensures in
+    let from2-ensures = c.from-x.ensures in
+    let from-ensures = c.from-n.ensures in
     let pre = c.requires in
-    pair_spined wide-ensures wide2-ensures wide3-ensures pre.0 pre.2 walk-ensures heads-of-ensures
+    pair_spined from-ensures from2-ensures from3-ensures pre.0 pre.2 walk-ensures heads-of-ensures
 
 pub overflow_cast-result : goal.overflow_cast-result
 overflow_cast-result c =
     let way-between-ensures = c.way_between-way.ensures in
     let walk-ensures = c.walk.ensures in
-    let wide3-ensures = c.from-y.ensures in
-    let wide2-ensures = c.from-x.ensures in
-    let wide-ensures = c.from-n.ensures in
+    let from3-ensures = c.from-y.ensures in
+    let from2-ensures = c.from-x.ensures in
+    let from-ensures = c.from-n.ensures in
     let pre = c.requires in
     omega (
       arith,
-      pair_short wide-ensures wide2-ensures wide3-ensures pre.0 pre.2 walk-ensures
+      pair_short from-ensures from2-ensures from3-ensures pre.0 pre.2 walk-ensures
           way-between-ensures c.lowered-weight.ensures,
     )
 
@@ -52,10 +52,10 @@ pub returns : goal.returns
 returns c =
     let way-between-ensures = c.way_between-way.ensures in
     let walk-ensures = c.walk.ensures in
-    let wide3-ensures = c.from-y.ensures in
-    let wide2-ensures = c.from-x.ensures in
-    let wide-ensures = c.from-n.ensures in
+    let from3-ensures = c.from-y.ensures in
+    let from2-ensures = c.from-x.ensures in
+    let from-ensures = c.from-n.ensures in
     let pre = c.requires in
     rw (to_z-of_z w64 c.lowered-weight.result (record { sfits = c.lowered-weight.type_inv }))
-    (pair_shown wide-ensures wide2-ensures wide3-ensures pre.0 pre.2 walk-ensures
+    (pair_shown from-ensures from2-ensures from3-ensures pre.0 pre.2 walk-ensures
     way-between-ensures c.lowered-weight.ensures c.hops-hops.ensures)

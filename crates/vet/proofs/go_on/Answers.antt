@@ -13,8 +13,8 @@ returns-then-list-ne0 c = passed (omega (arith, c.from-n.ensures)) (refused (λ 
 
 pub returns : goal.returns
 returns c =
-    let wide-ensures = c.from-n.ensures in
+    let from-ensures = c.from-n.ensures in
     let args = c.args in
     let fits = c.ranges in
     let e = to_z-of_z w64 args.floor fits.floor in
-    passed (omega (arith, wide-ensures)) (passed (omega arith) (rw e at c.verdict.ensures))
+    passed (omega (arith, from-ensures)) (passed (omega arith) (rw e at c.verdict.ensures))

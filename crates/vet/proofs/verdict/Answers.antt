@@ -10,17 +10,17 @@ use Rattle.vet.proofs.verdict.Goals as goal
 
 pub spots_of-requires : goal.spots_of-requires
 spots_of-requires c =
-    let wide-ensures = c.from-n.ensures in
+    let from-ensures = c.from-n.ensures in
     let grounded-ensures = c.grounded.ensures in
-    rw wide-ensures (ground grounded-ensures)
+    rw from-ensures (ground grounded-ensures)
 
 pub vet_rows-requires : goal.vet_rows-requires
 vet_rows-requires c =
     let long-ensures = c.from-most.ensures in
     let spots-of-ensures = c.spots_of.ensures in
-    let wide-ensures = c.from-n.ensures in
+    let from-ensures = c.from-n.ensures in
     let grounded-ensures = c.grounded.ensures in
-    rows_asked wide-ensures grounded-ensures spots-of-ensures (omega (arith, long-ensures))
+    rows_asked from-ensures grounded-ensures spots-of-ensures (omega (arith, long-ensures))
     (omega (arith, c.requires.list_len))
 
 pub returns : goal.returns
@@ -28,10 +28,10 @@ returns c =
     let raised-ensures = c.raised.ensures in
     let long-ensures = c.from-most.ensures in
     let spots-of-ensures = c.spots_of.ensures in
-    let wide-ensures = c.from-n.ensures in
+    let from-ensures = c.from-n.ensures in
     let grounded-ensures = c.grounded.ensures in
     let args = c.args in
     let fits = c.ranges in
     let e = to_z-of_z w64 args.floor fits.floor in
-    verdict_is wide-ensures grounded-ensures spots-of-ensures (long-ensures ∙ c.requires.bound_value)
+    verdict_is from-ensures grounded-ensures spots-of-ensures (long-ensures ∙ c.requires.bound_value)
     (rw e at raised-ensures) args.list.now _ c.vet_rows.result c.vet_rows.ensures

@@ -18,8 +18,8 @@ second_end-q-requires c =
 
 pub round-requires : goal.round-requires
 round-requires c =
-    let wide2-ensures = c.from-in-loop-r.ensures in
-    let wide-ensures = c.from.ensures in
+    let from2-ensures = c.from-in-loop-r.ensures in
+    let from-ensures = c.from.ensures in
     let second-end-ensures = c.second_end-q.ensures in
     let first-end-ensures = c.first_end-p.ensures in
     let loop-test-taken = c.loop-r-test.true in
@@ -33,8 +33,8 @@ round-requires c =
       a = _;
       order = _;
       r = _;
-      round = round_of t.hung loop-test-taken first-end-ensures second-end-ensures wide-ensures
-          wide2-ensures (c.extra.ensures.0 c.if-extra.true)
+      round = round_of t.hung loop-test-taken first-end-ensures second-end-ensures from-ensures
+          from2-ensures (c.extra.ensures.0 c.if-extra.true)
           (loop-inv.1 t.n t.a t.order t.hung);
     }
 
@@ -49,21 +49,21 @@ returns-then-not-round c =
 
 pub loop-r-preserved : goal.loop-r-preserved
 loop-r-preserved c =
-    let wide-ensures = c.from.ensures in
-    let wide2-ensures = c.from-in-loop-r.ensures in
+    let from-ensures = c.from.ensures in
+    let from2-ensures = c.from-in-loop-r.ensures in
     let second-end-ensures = c.second_end-q.ensures in
     let first-end-ensures = c.first_end-p.ensures in
     let loop-inv = c.loop-r.invariant in (
       omega arith,
       λ n a order h. elim c.else-extra.branch [
         | else-extra-via-then-extra+else-not-round w ↦
-            let t = round_of h c.loop-r-test.true first-end-ensures second-end-ensures wide-ensures wide2-ensures
+            let t = round_of h c.loop-r-test.true first-end-ensures second-end-ensures from-ensures from2-ensures
             (c.extra.ensures.0 w.if-extra.true) (loop-inv.1 n a order h) in
             rw w.over-is ((w.round.ensures _ _ _ n a order _ t).0 w.if-not-round.false)
         | else-extra-via-else-extra w ↦
             rw w.over-is
             (passes_skip
-            (extra_not first-end-ensures second-end-ensures wide-ensures wide2-ensures
+            (extra_not first-end-ensures second-end-ensures from-ensures from2-ensures
             (c.extra.ensures.1 w.if-extra.false))
             (loop-inv.1 n a order h))
       ],

@@ -40,12 +40,12 @@ bounds-old-x c =
 
 pub hang-requires : goal.hang-requires
 hang-requires c =
-    let wide-ensures = c.from-p.ensures in
+    let from-ensures = c.from-p.ensures in
     let loop-test-taken = c.loop-x-test.true in
     let loop-inv = c.loop-x.invariant in
     let h = c.requires.0.hung in
     let t = climbing_ready h (loop-inv _ _ _ _ h) loop-test-taken in
-    (room t, omega (arith, wide-ensures, (c_fits t).0), (c_fits t).1)
+    (room t, omega (arith, from-ensures, (c_fits t).0), (c_fits t).1)
 
 pub overflow_add-m : goal.overflow_add-m
 overflow_add-m c =
@@ -63,10 +63,10 @@ loop-x-smaller c =
 
 pub loop-x-preserved : goal.loop-x-preserved
 loop-x-preserved c =
-    let wide-ensures = c.from-p.ensures in
+    let from-ensures = c.from-p.ensures in
     let loop-test-taken = c.loop-x-test.true in
     let loop-inv = c.loop-x.invariant in
-    λ u v k place0 h. rw (c.hang.ensures.0, c.hang.ensures.1, c.hang.ensures.2, wide-ensures)
+    λ u v k place0 h. rw (c.hang.ensures.0, c.hang.ensures.1, c.hang.ensures.2, from-ensures)
     (climbing_next h (loop-inv u v k place0 h) loop-test-taken)
 
 pub loop-i-init : goal.loop-i-init
@@ -74,29 +74,29 @@ loop-i-init c = λ u v k place0 h. turning_start h (c.loop-x.invariant u v k pla
 
 pub hang-requires-then-tree-y-eq256 : goal.hang-requires-then-tree-y-eq256
 hang-requires-then-tree-y-eq256 c =
-    let wide3-ensures = c.from-p-then-tree-y-eq256.ensures in
+    let from3-ensures = c.from-p-then-tree-y-eq256.ensures in
     let if1-taken = c.if-tree-y-eq256.true in
-    let wide2-ensures = c.from-y.ensures in
+    let from2-ensures = c.from-y.ensures in
     let loop2-test-taken = c.loop-i-test.true in
     let loop2-inv = c.loop-i.invariant in
     let args = c.args in
     let h = c.requires.0.hung in
     let s = loop2-inv _ _ _ _ h in
-    let t = turning_ready h s loop2-test-taken (rw wide2-ensures at if1-taken) in (
+    let t = turning_ready h s loop2-test-taken (rw from2-ensures at if1-taken) in (
       room t,
-      omega (arith, wide2-ensures, (c_fits t).0),
-      omega (arith, wide3-ensures, ap (λ y. at args.old.now.par y) wide2-ensures, (c_fits t).1),
+      omega (arith, from2-ensures, (c_fits t).0),
+      omega (arith, from3-ensures, ap (λ y. at args.old.now.par y) from2-ensures, (c_fits t).1),
     )
 
 pub overflow_add-m-then-tree-y-eq256 : goal.overflow_add-m-then-tree-y-eq256
 overflow_add-m-then-tree-y-eq256 c =
     let if1-taken = c.if-tree-y-eq256.true in
-    let wide2-ensures = c.from-y.ensures in
+    let from2-ensures = c.from-y.ensures in
     let loop2-test-taken = c.loop-i-test.true in
     let loop2-inv = c.loop-i.invariant in
     let h = c.requires.0.hung in
     let s = loop2-inv _ _ _ _ h in
-    omega (arith, room (turning_ready h s loop2-test-taken (rw wide2-ensures at if1-taken)))
+    omega (arith, room (turning_ready h s loop2-test-taken (rw from2-ensures at if1-taken)))
 
 pub loop-i-preserved : goal.loop-i-preserved
 loop-i-preserved c =

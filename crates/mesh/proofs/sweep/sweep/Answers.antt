@@ -33,42 +33,42 @@ loop-j-init c =
 
 pub advance-t-requires : goal.advance-t-requires
 advance-t-requires c =
-    let wide2-ensures = c.from-p.ensures in
-    let wide-ensures = c.from-z.ensures in
+    let from2-ensures = c.from-p.ensures in
+    let from-ensures = c.from-z.ensures in
     let loop-test-taken = c.loop-j-test.true in
     let loop-inv = c.loop-j.invariant in
     omega (
       arith,
-      (parent_fits loop-inv loop-test-taken _ _ wide-ensures wide2-ensures).climbs,
+      (parent_fits loop-inv loop-test-taken _ _ from-ensures from2-ensures).climbs,
       loop-inv.tree.few,
     )
 
 pub best-d-requires : goal.best-d-requires
 best-d-requires c =
     let st = c.advance-t.ensures in
-    let wide2-ensures = c.from-p.ensures in
-    let wide-ensures = c.from-z.ensures in
+    let from2-ensures = c.from-p.ensures in
+    let from-ensures = c.from-z.ensures in
     let l = c.loop-j-test.true in
     let s = c.loop-j.invariant in
     let pre = c.requires in
-    let t = step_fits s l _ _ wide-ensures wide2-ensures _ _ st in (
+    let t = step_fits s l _ _ from-ensures from2-ensures _ _ st in (
       omega (arith, t.0, s.tree.few, s.some),
       t.1,
       omega (arith, t.2, s.tree.few),
-      many_fits s l _ _ wide-ensures wide2-ensures _ _ st _
-          (many_of s l _ _ wide-ensures wide2-ensures _ _ st pre.1 c.from.ensures),
+      many_fits s l _ _ from-ensures from2-ensures _ _ st _
+          (many_of s l _ _ from-ensures from2-ensures _ _ st pre.1 c.from.ensures),
     )
 
 pub loop-j-preserved : goal.loop-j-preserved
 loop-j-preserved c =
     let st = c.advance-t.ensures in
-    let wide2-ensures = c.from-p.ensures in
-    let wide-ensures = c.from-z.ensures in
+    let from2-ensures = c.from-p.ensures in
+    let from-ensures = c.from-z.ensures in
     let l = c.loop-j-test.true in
     let s = c.loop-j.invariant in
     let pre = c.requires in
-    sweeping_next s l _ _ wide-ensures wide2-ensures _ _ st _ _
-    (many_of s l _ _ wide-ensures wide2-ensures _ _ st pre.1 c.from.ensures)
+    sweeping_next s l _ _ from-ensures from2-ensures _ _ st _ _
+    (many_of s l _ _ from-ensures from2-ensures _ _ st pre.1 c.from.ensures)
     c.best-d.ensures
 
 pub returns : goal.returns
