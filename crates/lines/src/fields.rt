@@ -6,7 +6,7 @@ ghost use Rattle.std.proofs.Common.{to_z};
 ghost use Rattle.text.specs.Decimal.{decimal, signed};
 ghost use Rattle.text.specs.work.Put.{Put};
 
-pub(crate) const LINE_END: u8 = 10;
+pub(crate) const LINE_END: u8 = b'\n';
 
 pub(crate) fn field(out: &mut [u8], at: usize, word: &[u8], x: u64) -> usize
     requires { at + length word.now + 20 ≤ length out.old }

@@ -106,10 +106,8 @@ pub fn pairs(out: &mut [u8], rows: &[u8], from: usize, upto: usize) -> usize
         × (result ≤ 96 * (upto - from)) }
 {
     let mut at: usize = 0;
-    let mut i = from;
-    while i < upto {
+    for i in from..upto {
         at = pair(out, at, rows, 16 * i);
-        i += 1;
     }
     at
 }

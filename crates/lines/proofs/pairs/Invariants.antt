@@ -4,6 +4,3 @@ use Rattle.lines.proofs.pairs.Given as goal
 
 abbrev pub invariant-loop-i : goal.invariant-loop-i
 invariant-loop-i l = Lining l.initial.out l.rows l.from l.upto l.out l.at l.i
-
-abbrev pub decreases-loop-i : goal.decreases-loop-i
-decreases-loop-i l = l.upto - l.i
