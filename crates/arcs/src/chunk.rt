@@ -38,7 +38,8 @@ pub(crate) struct Links {
     pub next: [u16; 8192],
 }
 
-// What is worked in: two chunks, of which the links are one's, and the marks on the places of that one.
+// What is worked in: two chunks, of which the links are one's, and the marks on the places of that one, bytes since a
+// bool takes as much and the laws of a look (`ChunkIn`) speak of numbers.
 #[derive(Drop)]
 pub(crate) struct Work {
     pub one: Chunk,

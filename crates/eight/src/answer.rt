@@ -23,6 +23,7 @@ pub(crate) fn refuse(why: Refusal, answer: &mut [i64; 8]) -> u8
     ensures { (lent : List ℕ)
         → call result answer.new lent ≡ refusal_in_c why lent }
 {
+    // usize has no From into i64; both numbers fit (`Room`).
     let row = why.row as i64;
     let ring = why.ring as i64;
     *answer = [i64::from(why.number), row, ring, 0, 0, 0, 0, 0];

@@ -34,6 +34,7 @@ pub fn tables(
 
 // Between crates: the figures of two nodes, a lower than b. far and heavy have, by spot, the distance and the lifted
 // weight from node 0.
+// The arrays apart, as vetting lends them: what is asked of them (`FigureAsked`) speaks of each.
 pub fn figure(
     spot: &[u16; 4096],
     above: &[u16; 4096],

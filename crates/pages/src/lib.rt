@@ -116,6 +116,7 @@ pub fn first_second(s: usize, t: usize, u: usize, n: usize) -> usize
 }
 
 // The second nodes of u in turn, from `from` on: each that passes goes into the page, or is counted.
+// The limit and the sums apart: `passes`, which vetting calls too, promises of each by itself.
 pub fn seconds(
     out: &mut [u8],
     room: usize,

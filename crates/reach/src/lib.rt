@@ -17,7 +17,7 @@ ghost use Rattle.reach.specs.work.Placing.{Once, Placed, Places};
 use net::{first_end, second_end};
 
 // The walk: for each node its parent, the half-branch by which it was reached and its place in the order; for each
-// place the node.
+// place the node. Each array has 4,096 places, whatever the net: no heap, and room for every accepted one.
 #[derive(Drop)]
 pub struct Walk {
     pub parent: [u16; 4096],

@@ -19,7 +19,8 @@ pub(crate) struct CountLimits {
 }
 
 // A pair, its branch count and its lifted weight; count 0 is none. hit is 1 where the first node that was looked at
-// last has a pair of that count.
+// last has a pair of that count. No Option: each pair's count is compared with this one, which would be taken out of it
+// each time; hit goes into an array of numbers.
 #[derive(Clone, Copy)]
 pub(crate) struct Found {
     pub(crate) low: usize,
