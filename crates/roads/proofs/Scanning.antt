@@ -73,8 +73,8 @@ module _ {s : List ℕ} {at i x : ℕ} (k : Scan s at i x) where
     after = omega (arith, k.after);
   }
 
-  pub scan_found : {end : ℕ} → i < length s → get_or s i 0 ≡ end → FieldOf s at end (Some (record { value = x; next =
-      i + 1 }))
+  pub scan_found : {end : ℕ} → i < length s → get_or s i 0 ≡ end →
+      FieldOf s at end (Some (record { value = x; next = i + 1 }))
   scan_found {end} h e = number
       (record { digits = k.text; spelt = rw (← byte_there s i end h e) k.spelt; decimal = k.decimal })
       k.carries
@@ -93,8 +93,9 @@ module _ {s : List ℕ} {at i x : ℕ} (k : Scan s at i x) where
     pub scan_other : i < length s → (get_or s i 0 ≡ end → ⊥) → IsNotAsciiDigit (get_or s i 0) → FieldOf s at end None
     scan_other h n d =
         let e = from_place s i h in
-        scan_ends (rw e (byte (λ (lo : 48 ≤ get_or s i 0) (hi : get_or s i 0 ≤ 57). omega arith))) (λ r f. n (cc (e,
-            f)))
+        scan_ends
+        (rw e (byte (λ (lo : 48 ≤ get_or s i 0) (hi : get_or s i 0 ≤ 57). omega arith)))
+        (λ r f. n (cc (e, f)))
 
     pub scan_zero : i < length s → x ≡ 0 → IsAsciiDigit (get_or s i 0) → FieldOf s at end None
     scan_zero h z (lo, hi) =

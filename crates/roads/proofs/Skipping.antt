@@ -66,8 +66,13 @@ module _ {x : List ℕ} (s : List ℕ) {at : ℕ} (w : List ℕ) where
       let z = there h e in
       let k : drop (length w) x ≡ drop (at + length w) s = rw (← z) (drop-drop (length w) at s) in
       let g : drop at s ≡ w ++ drop (at + length w) s = rw k at (z ∙ f) in
-      let l : at + length w ≤ length s = omega (arith, ap length f, ap length z, length-drop at s, length-append w
-          (drop (length w) x)) in
+      let l : at + length w ≤ length s = omega (
+        arith,
+        ap length f,
+        ap length z,
+        length-drop at s,
+        length-append w (drop (length w) x),
+      ) in
       stands {next = at + length w} g (record { on = omega arith; within = l })
 
   pub word_other : at ≤ length s → x ≡ slice_range s at (length s) → ((r : List ℕ) → x ≡ w ++ r → ⊥)

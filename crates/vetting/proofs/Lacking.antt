@@ -193,7 +193,7 @@ module _ {s : List ℕ} {n from end m : ℕ} {bits : List ℕ} (N : NamePairs s 
           known = λ x h. omega (arith, line_only h t.known.is, t.known.before);
           node = t.node;
           lines = both_covered (omega (arith, t.node)) (λ a h. done_covered P (Named s m) n (LineDone n from) u F a
-          (omega arith)) t.lines;
+              (omega arith)) t.lines;
           first = record {
             within = q.within;
             before = λ b o c. covered_named t.known o (omega (arith, q.within)) (q.before b o c);

@@ -29,7 +29,9 @@ returns c =
       free = λ _. refl;
       marked = λ m. elim c.else-row-marks.branch [
         | else-row-marks-via-then-row-marks+else-marks-row-ne-FREE w ↦ absurd (m w.if-marks-row-ne-FREE.false)
-        | else-row-marks-via-else-row-marks w ↦ absurd (m (get_or-eq_default marks 0 (omega (arith,
-        w.if-row-marks.false))))
+        | else-row-marks-via-else-row-marks w ↦ absurd (m (get_or-eq_default marks 0 (omega (
+          arith,
+          w.if-row-marks.false,
+        ))))
       ];
     }

@@ -27,9 +27,11 @@ returns-then-not-is_ascii_digit c =
 
 pub loop-i-init : goal.loop-i-init
 loop-i-init c =
-    let first = c.in_ok-first.ensures.lookup in
-    (rw (c.from-x.ensures, first.3.1 0) (scan_first _ _ (omega arith) (rw (first.3.1 0) at
-    c.if-not-is_ascii_digit.ensures.cases)), omega arith)
+    let first = c.in_ok-first.ensures.lookup in (
+      rw (c.from-x.ensures, first.3.1 0) (scan_first _ _ (omega arith) (rw (first.3.1 0) at
+          c.if-not-is_ascii_digit.ensures.cases)),
+      omega arith,
+    )
 
 pub returns-then-b-end : goal.returns-then-b-end
 returns-then-b-end c = scan_found c.loop-i.invariant.0 (omega arith) (omega arith)
@@ -46,9 +48,10 @@ returns-then-not-is_ascii_digit-2 c =
 
 pub loop-i-preserved : goal.loop-i-preserved
 loop-i-preserved c =
-    let loop-inv = c.loop-i.invariant in
-    (scan_more loop-inv.0 (omega arith) c.if-not-is_ascii_digit-2.ensures.cases (omega arith) c.longer-x.ensures,
-    omega arith)
+    let loop-inv = c.loop-i.invariant in (
+      scan_more loop-inv.0 (omega arith) c.if-not-is_ascii_digit-2.ensures.cases (omega arith) c.longer-x.ensures,
+      omega arith,
+    )
 
 pub returns : goal.returns
 returns c = scan_out c.loop-i.invariant.0 (omega arith) (omega arith)
