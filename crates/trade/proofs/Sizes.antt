@@ -7,23 +7,22 @@ use Rattle.table.proofs.Refusals.{by_unless}
 use Rattle.tree.proofs.Begins.{by_beginning}
 use Rattle.roads.specs.Text.{Said}
 use Rattle.roads.specs.Both.{unread, read}
-use Rattle.dimacs.specs.Read.{read_refusal, MakesTable, ReadOf}
+use Rattle.std.specs.Prelude.{Ok, Err}
+use Rattle.dimacs.specs.Read.{ReadAnswer, read_refusal, MakesTable, ReadOf}
 use Rattle.dimacs.specs.Write.{Wrote, write_refusal, GivesTexts, WriteOf}
-use Rattle.dimacs.specs.declared.ReadAnswer.{ReadAnswer}
-use Rattle.dimacs.specs.declared.ReadAnswer.TheVariants as reading
-use Rattle.dimacs.specs.declared.WriteAnswer.TheVariants as writing
+use Rattle.dimacs.specs.declared.Texts.{Texts}
 
 front_within : (t r : List ℕ) → length t ≤ length (t ++ r)
 front_within t r = omega (arith, length-append t r)
 
 -- of a refusal there is nothing to say
 abbrev TableWithin : ReadAnswer × List ℕ → Type 0
-TableWithin (reading.Table n, now) = n ≤ length now
-TableWithin (reading.Refused why, now) = Unit
+TableWithin (Ok n, now) = n ≤ length now
+TableWithin (Err why, now) = Unit
 
 abbrev TextsWithin : Wrote → Type 0
-TextsWithin (writing.Texts l w, long, heavy) = (l ≤ length long) × (w ≤ length heavy)
-TextsWithin (writing.Refused why, long, heavy) = Unit
+TextsWithin (Ok sizes, long, heavy) = (sizes.lengths ≤ length long) × (sizes.weights ≤ length heavy)
+TextsWithin (Err why, long, heavy) = Unit
 
 made_within : (a b : Said) (bound : ℕ) (old : List ℕ) (o : ReadAnswer × List ℕ) → MakesTable a b bound old o
     → TableWithin o
@@ -44,7 +43,7 @@ module _ {lengths weights old : List ℕ} {bound : ℕ} where
       (λ _ y r. by_unless TableWithin tt (λ _ z m. made_within a b bound old z m) r) q)
       p
 
-  pub table_within : {now : List ℕ} {n : ℕ} → ReadOf lengths weights bound old (reading.Table n, now) → n ≤ length now
+  pub table_within : {now : List ℕ} {n : ℕ} → ReadOf lengths weights bound old (Ok n, now) → n ≤ length now
   table_within p = read_within _ p
 
 module _ {s lengths weights : List ℕ} where
@@ -71,6 +70,6 @@ module _ {s lengths weights : List ℕ} where
       q)
       p
 
-  pub texts_within : {long heavy : List ℕ} {l w : ℕ} → WriteOf s lengths weights (writing.Texts l w, long, heavy)
-      → (l ≤ length long) × (w ≤ length heavy)
+  pub texts_within : {long heavy : List ℕ} {sizes : Texts} → WriteOf s lengths weights (Ok sizes, long, heavy)
+      → (sizes.lengths ≤ length long) × (sizes.weights ≤ length heavy)
   texts_within p = write_within _ p

@@ -1,26 +1,24 @@
 -- What the program hands over to be written: of a reading the table, of a writing the two texts, each after a line with
 -- its size; of a refusal its line.
-use Rattle.std.specs.Prelude.{ℕ, ◌+◌, ◌≤◌, ◌≡◌, List, ◌++◌, length, take, Option}
+use Rattle.std.specs.Prelude.{ℕ, ◌+◌, ◌≤◌, ◌≡◌, List, ◌++◌, length, take, Option, Ok, Err}
 use Rattle.std.specs.Io.KnownBytes.{Appends}
 use Rattle.streams.specs.Front.{HasWritten}
 use Rattle.lines.specs.Lines.{refused_text, total_text}
 use Rattle.dimacs.specs.Read.{ReadOf}
 use Rattle.dimacs.specs.Write.{Wrote, WriteOf}
-use Rattle.dimacs.specs.declared.ReadAnswer.{ReadAnswer}
-use Rattle.dimacs.specs.declared.ReadAnswer.TheVariants as read
-use Rattle.dimacs.specs.declared.WriteAnswer.TheVariants as write
+use Rattle.dimacs.specs.Read.{ReadAnswer}
 
 -- the first n bytes, after a line with their number
 abbrev pub sized : ℕ → List ℕ → List ℕ
 sized n now = total_text n ++ take n now
 
 abbrev pub read_told : ReadAnswer × List ℕ → List ℕ
-read_told (read.Table n, now) = sized n now
-read_told (read.Refused why, now) = refused_text why.number why.row why.ring
+read_told (Ok n, now) = sized n now
+read_told (Err why, now) = refused_text why.number why.row why.ring
 
 abbrev pub write_told : Wrote → List ℕ
-write_told (write.Texts l w, long, heavy) = sized l long ++ sized w heavy
-write_told (write.Refused why, long, heavy) = refused_text why.number why.row why.ring
+write_told (Ok sizes, long, heavy) = sized sizes.lengths long ++ sized sizes.weights heavy
+write_told (Err why, long, heavy) = refused_text why.number why.row why.ring
 
 -- t tells the outcome of what is asked. Way 1 reads two texts into lent bytes, of which there are enough for the table
 -- of any two texts of 1,048,576 bytes each (an arc takes 8 bytes of a text and 6 of the table), so that by counting 29

@@ -6,10 +6,9 @@ use std::io;
 use std::io::Write;
 use streams::write_both;
 
-// What is asked: the way, the wire bound, and two inputs.
+// What is asked besides the way: the wire bound, and two inputs.
 #[derive(Clone, Copy)]
 pub(crate) struct Asked<'a> {
-    pub way: u8,
     pub bound: u32,
     pub first: &'a [u8],
     pub second: &'a [u8],
@@ -28,19 +27,20 @@ pub(crate) struct Handed {
 // writer whose bytes are known has them all, or after an error a front of them.
 pub(crate) fn hand_over<W: Write>(
     to: &mut W,
+    way: u8,
     asked: &Asked,
     line: &[u8],
     bytes: &[u8],
     other: &[u8],
     more: &[u8],
 ) -> io::Result<Handed>
-    requires { Tells asked.now.way asked.now.first.now asked.now.second.now asked.now.bound
+    requires { Tells way asked.now.first.now asked.now.second.now asked.now.bound
         ((line.now ++ bytes.now) ++ (other.now ++ more.now)) }
-    ensures counted { IfOk result (λ handed. HandedOver asked.now.way asked.now.first.now asked.now.second.now
+    ensures counted { IfOk result (λ handed. HandedOver way asked.now.first.now asked.now.second.now
         asked.now.bound handed.one handed.two) }
-    ensures written { OnOk result (Writes asked.now.way asked.now.first.now asked.now.second.now asked.now.bound
+    ensures written { OnOk result (Writes way asked.now.first.now asked.now.second.now asked.now.bound
         (W.contents to.old) (W.contents to.new)) }
-    ensures err { OnErr result (WritesFront asked.now.way asked.now.first.now asked.now.second.now asked.now.bound
+    ensures err { OnErr result (WritesFront way asked.now.first.now asked.now.second.now asked.now.bound
         (W.contents to.old) (W.contents to.new)) }
 {
     write_both(to, line, bytes)?;

@@ -8,8 +8,6 @@
 mod handed;
 mod trading;
 
-ghost use Rattle.std.specs.Prelude.{◌≡◌};
-
 use handed::Asked;
 use std::io;
 use std::io::{Read, Write};
@@ -39,18 +37,14 @@ fn filled<R: Read>(from: &mut R, input: &mut [u8]) -> io::Result<bool> {
     Ok(n == input.len())
 }
 
-fn read<W: Write>(to: &mut W, asked: &Asked) -> io::Result<()>
-    requires { asked.now.way ≡ 1 }
-{
+fn read<W: Write>(to: &mut W, asked: &Asked) -> io::Result<()> {
     let mut table = table_space();
     let mut line = line_space();
     trading::read(to, asked, &mut table, &mut line)?;
     Ok(())
 }
 
-fn write<W: Write>(to: &mut W, asked: &Asked) -> io::Result<()>
-    requires { asked.now.way ≡ 2 }
-{
+fn write<W: Write>(to: &mut W, asked: &Asked) -> io::Result<()> {
     let mut lengths = text_space();
     let mut weights = text_space();
     let mut line = line_space();
@@ -71,7 +65,6 @@ fn trade<R: Read, W: Write>(
         return Ok(());
     }
     let asked = Asked {
-        way,
         bound,
         first,
         second,

@@ -1,51 +1,58 @@
 // Each way: the operation's outcome is told, its lines put into lent bytes, and handed over.
-ghost use Rattle.std.specs.Prelude.{◌≡◌, ◌≤◌, ◌++◌, IfOk, OnErr, OnOk, length};
+ghost use Rattle.std.specs.Prelude.{◌≤◌, ◌++◌, IfOk, OnErr, OnOk, length};
 ghost use Rattle.lines.specs.Lines.{refused_text};
 ghost use Rattle.trade.specs.Told.{sized, Tells, HandedOver, Writes, WritesFront};
 
 use crate::handed::{Asked, Handed, hand_over};
-use dimacs::{ReadAnswer, WriteAnswer};
 use std::io;
 use std::io::Write;
 use tree::Refusal;
 
-fn refuse<W: Write>(to: &mut W, asked: &Asked, line: &mut [u8], why: Refusal) -> io::Result<Handed>
+fn refuse<W: Write>(
+    to: &mut W,
+    way: u8,
+    asked: &Asked,
+    line: &mut [u8],
+    why: Refusal,
+) -> io::Result<Handed>
     requires { (128 ≤ length line.old)
-        × Tells asked.now.way asked.now.first.now asked.now.second.now asked.now.bound (refused_text why.number
+        × Tells way asked.now.first.now asked.now.second.now asked.now.bound (refused_text why.number
         why.row why.ring) }
-    ensures counted { IfOk result (λ handed. HandedOver asked.now.way asked.now.first.now asked.now.second.now
+    ensures counted { IfOk result (λ handed. HandedOver way asked.now.first.now asked.now.second.now
         asked.now.bound handed.one handed.two) }
-    ensures written { OnOk result (Writes asked.now.way asked.now.first.now asked.now.second.now asked.now.bound
+    ensures written { OnOk result (Writes way asked.now.first.now asked.now.second.now asked.now.bound
         (W.contents to.old) (W.contents to.new)) }
-    ensures err { OnErr result (WritesFront asked.now.way asked.now.first.now asked.now.second.now asked.now.bound
+    ensures err { OnErr result (WritesFront way asked.now.first.now asked.now.second.now asked.now.bound
         (W.contents to.old) (W.contents to.new)) }
 {
     let k = lines::refused(line, u64::from(why.number), why.row as u64, why.ring as u64);
-    hand_over(to, asked, &line[..k], b"", b"", b"")
+    hand_over(to, way, asked, &line[..k], b"", b"", b"")
 }
 
 fn give_table<W: Write>(
     to: &mut W,
+    way: u8,
     asked: &Asked,
     line: &mut [u8],
     table: &[u8],
 ) -> io::Result<Handed>
     requires { (128 ≤ length line.old)
-        × Tells asked.now.way asked.now.first.now asked.now.second.now asked.now.bound (sized (length table.now)
+        × Tells way asked.now.first.now asked.now.second.now asked.now.bound (sized (length table.now)
         table.now) }
-    ensures counted { IfOk result (λ handed. HandedOver asked.now.way asked.now.first.now asked.now.second.now
+    ensures counted { IfOk result (λ handed. HandedOver way asked.now.first.now asked.now.second.now
         asked.now.bound handed.one handed.two) }
-    ensures written { OnOk result (Writes asked.now.way asked.now.first.now asked.now.second.now asked.now.bound
+    ensures written { OnOk result (Writes way asked.now.first.now asked.now.second.now asked.now.bound
         (W.contents to.old) (W.contents to.new)) }
-    ensures err { OnErr result (WritesFront asked.now.way asked.now.first.now asked.now.second.now asked.now.bound
+    ensures err { OnErr result (WritesFront way asked.now.first.now asked.now.second.now asked.now.bound
         (W.contents to.old) (W.contents to.new)) }
 {
     let k = lines::total(line, table.len() as u64);
-    hand_over(to, asked, &line[..k], table, b"", b"")
+    hand_over(to, way, asked, &line[..k], table, b"", b"")
 }
 
 fn give_texts<W: Write>(
     to: &mut W,
+    way: u8,
     asked: &Asked,
     line: &mut [u8],
     lengths: &[u8],
@@ -53,18 +60,18 @@ fn give_texts<W: Write>(
     weights: &[u8],
 ) -> io::Result<Handed>
     requires { (128 ≤ length line.old) × (128 ≤ length other.old)
-        × Tells asked.now.way asked.now.first.now asked.now.second.now asked.now.bound (sized (length lengths.now)
+        × Tells way asked.now.first.now asked.now.second.now asked.now.bound (sized (length lengths.now)
         lengths.now ++ sized (length weights.now) weights.now) }
-    ensures counted { IfOk result (λ handed. HandedOver asked.now.way asked.now.first.now asked.now.second.now
+    ensures counted { IfOk result (λ handed. HandedOver way asked.now.first.now asked.now.second.now
         asked.now.bound handed.one handed.two) }
-    ensures written { OnOk result (Writes asked.now.way asked.now.first.now asked.now.second.now asked.now.bound
+    ensures written { OnOk result (Writes way asked.now.first.now asked.now.second.now asked.now.bound
         (W.contents to.old) (W.contents to.new)) }
-    ensures err { OnErr result (WritesFront asked.now.way asked.now.first.now asked.now.second.now asked.now.bound
+    ensures err { OnErr result (WritesFront way asked.now.first.now asked.now.second.now asked.now.bound
         (W.contents to.old) (W.contents to.new)) }
 {
     let k = lines::total(line, lengths.len() as u64);
     let m = lines::total(other, weights.len() as u64);
-    hand_over(to, asked, &line[..k], lengths, &other[..m], weights)
+    hand_over(to, way, asked, &line[..k], lengths, &other[..m], weights)
 }
 
 // The table of two texts, with this wire bound.
@@ -74,17 +81,17 @@ pub(crate) fn read<W: Write>(
     table: &mut [u8],
     line: &mut [u8],
 ) -> io::Result<Handed>
-    requires { (asked.now.way ≡ 1) × (786448 ≤ length table.old) × (128 ≤ length line.old) }
-    ensures counted { IfOk result (λ handed. HandedOver asked.now.way asked.now.first.now asked.now.second.now
+    requires { (786448 ≤ length table.old) × (128 ≤ length line.old) }
+    ensures counted { IfOk result (λ handed. HandedOver 1 asked.now.first.now asked.now.second.now
         asked.now.bound handed.one handed.two) }
-    ensures written { OnOk result (Writes asked.now.way asked.now.first.now asked.now.second.now asked.now.bound
+    ensures written { OnOk result (Writes 1 asked.now.first.now asked.now.second.now asked.now.bound
         (W.contents to.old) (W.contents to.new)) }
-    ensures err { OnErr result (WritesFront asked.now.way asked.now.first.now asked.now.second.now asked.now.bound
+    ensures err { OnErr result (WritesFront 1 asked.now.first.now asked.now.second.now asked.now.bound
         (W.contents to.old) (W.contents to.new)) }
 {
     match dimacs::read(asked.first, asked.second, asked.bound, table) {
-        ReadAnswer::Refused(why) => refuse(to, asked, line, why),
-        ReadAnswer::Table { size } => give_table(to, asked, line, &table[..size]),
+        Err(why) => refuse(to, 1, asked, line, why),
+        Ok(size) => give_table(to, 1, asked, line, &table[..size]),
     }
 }
 
@@ -97,20 +104,25 @@ pub(crate) fn write<W: Write>(
     line: &mut [u8],
     other: &mut [u8],
 ) -> io::Result<Handed>
-    requires { (asked.now.way ≡ 2) × (180000 ≤ length lengths.old) × (180000 ≤ length weights.old)
+    requires { (180000 ≤ length lengths.old) × (180000 ≤ length weights.old)
         × (128 ≤ length line.old) × (128 ≤ length other.old) }
-    ensures counted { IfOk result (λ handed. HandedOver asked.now.way asked.now.first.now asked.now.second.now
+    ensures counted { IfOk result (λ handed. HandedOver 2 asked.now.first.now asked.now.second.now
         asked.now.bound handed.one handed.two) }
-    ensures written { OnOk result (Writes asked.now.way asked.now.first.now asked.now.second.now asked.now.bound
+    ensures written { OnOk result (Writes 2 asked.now.first.now asked.now.second.now asked.now.bound
         (W.contents to.old) (W.contents to.new)) }
-    ensures err { OnErr result (WritesFront asked.now.way asked.now.first.now asked.now.second.now asked.now.bound
+    ensures err { OnErr result (WritesFront 2 asked.now.first.now asked.now.second.now asked.now.bound
         (W.contents to.old) (W.contents to.new)) }
 {
     match dimacs::write(asked.first, lengths, weights) {
-        WriteAnswer::Refused(why) => refuse(to, asked, line, why),
-        WriteAnswer::Texts {
-            lengths: a,
-            weights: b,
-        } => give_texts(to, asked, line, &lengths[..a], other, &weights[..b]),
+        Err(why) => refuse(to, 2, asked, line, why),
+        Ok(sizes) => give_texts(
+            to,
+            2,
+            asked,
+            line,
+            &lengths[..sizes.lengths],
+            other,
+            &weights[..sizes.weights],
+        ),
     }
 }
