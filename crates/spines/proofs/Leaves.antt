@@ -27,6 +27,24 @@ some? {P} d (suc n) = pick (d n) (some? d n)
         last t (yes e) = m (rw e at t.2)
         last t (no q) = s (t.0, omega (arith, t.1), t.2)
 
+module _ {n : ℕ} {par : ℕ → ℕ} where
+  unfoldable pub child? : (p c : ℕ) → Dec (Child n par p c)
+  child? p c = pick (dec_lt c n) (ℕ_discrete c 0) (ℕ_discrete (par c) p)
+    where
+      pick : Dec (c < n) → Dec (c ≡ 0) → Dec (par c ≡ p) → Dec (Child n par p c)
+      pick (yes b) (no z) (yes e) = yes (record { fits = b; low = z; of = e })
+      pick (no b) z e = no (λ k. b k.fits)
+      pick (yes b) (yes z) e = no (λ k. k.low z)
+      pick (yes b) (no z) (no e) = no (λ k. e k.of)
+
+  unfoldable pub leaf? : (x : ℕ) → Dec (Leaf (Child n par) n x)
+  leaf? x = pick (dec_lt x n) (some? (child? x) n)
+    where
+      pick : Dec (x < n) → Dec ((c : ℕ) × (c < n) × Child n par x c) → Dec (Leaf (Child n par) n x)
+      pick (no b) s = no (λ l. b l.fits)
+      pick (yes b) (yes t) = no (λ l. l.none t.0 t.2)
+      pick (yes b) (no m) = yes (record { fits = b; none = λ c k. m (c, k.fits, k) })
+
 module _ {n : ℕ} {par place : ℕ → ℕ} (T : Tree n par place) where
   -- two different children have no more leaves than their parent
   pub leaves_two : {p c d a b k : ℕ} → Child n par p c → Child n par p d → c ≢ d → Leaves (Child n par) n c a
@@ -59,33 +77,16 @@ module _ {n : ℕ} {par place : ℕ → ℕ} (T : Tree n par place) where
           more (yes h) = yes (up z refl h)
           more (no q) = no (λ h. ⊎_elim e (λ k. q k.1) (above_inv h))
 
-  unfoldable pub child? : (p c : ℕ) → Dec (Child n par p c)
-  child? p c = pick (dec_lt c n) (ℕ_discrete c 0) (ℕ_discrete (par c) p)
-    where
-      pick : Dec (c < n) → Dec (c ≡ 0) → Dec (par c ≡ p) → Dec (Child n par p c)
-      pick (yes b) (no z) (yes e) = yes (record { fits = b; low = z; of = e })
-      pick (no b) z e = no (λ k. b k.fits)
-      pick (yes b) (yes z) e = no (λ k. k.low z)
-      pick (yes b) (no z) (no e) = no (λ k. e k.of)
-
-  unfoldable pub leaf? : (x : ℕ) → x < n → Dec (Leaf (Child n par) n x)
-  leaf? x b = pick (some? (child? x) n)
-    where
-      pick : Dec ((c : ℕ) × (c < n) × Child n par x c) → Dec (Leaf (Child n par) n x)
-      pick (yes t) = no (λ l. l.none t.0 t.2)
-      pick (no m) = yes (record { fits = b; none = λ c k. m (c, k.fits, k) })
-
   unfoldable pub leaf_under? : (t x : ℕ) → Dec (LeafUnder (Child n par) n t x)
-  leaf_under? t x = pick (dec_lt x n)
+  leaf_under? t x = pick (leaf? x)
     where
-      both : Dec (Leaf (Child n par) n x) → Dec (Above par t x) → Dec (LeafUnder (Child n par) n t x)
-      both (yes l) (yes a) = yes (leaf_under T l a)
-      both (no l) a = no (λ h. l h.leaf)
-      both (yes l) (no a) = no (λ h. a (leaf_above h))
+      both : Leaf (Child n par) n x → Dec (Above par t x) → Dec (LeafUnder (Child n par) n t x)
+      both l (yes a) = yes (leaf_under T l a)
+      both l (no a) = no (λ h. a (leaf_above h))
 
-      pick : Dec (x < n) → Dec (LeafUnder (Child n par) n t x)
-      pick (yes b) = both (leaf? x b) (above? t (suc (place x)) x b (omega arith))
-      pick (no b) = no (λ h. b h.leaf.fits)
+      pick : Dec (Leaf (Child n par) n x) → Dec (LeafUnder (Child n par) n t x)
+      pick (yes l) = both l (above? t (suc (place x)) x l.fits (omega arith))
+      pick (no l) = no (λ h. l h.leaf)
 
   unfoldable pub leaves_some : (t : ℕ) → (k : ℕ) × Leaves (Child n par) n t k
   leaves_some t =

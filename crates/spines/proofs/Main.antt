@@ -20,7 +20,7 @@ module _ {n : ℕ} {par place : ℕ → ℕ} (T : Tree n par place) where
 
   unfoldable pub best : (p c : ℕ) → ((q : ℕ) × BestOf p c q) ⊎ ((d : ℕ) → d < c → ¬ Child n par p d)
   best p zero = inr (λ d h. absurd (omega arith))
-  best p (suc c) = pick (child? T p c) (best p c)
+  best p (suc c) = pick (child? p c) (best p c)
     where
       pick : Dec (Child n par p c) → ((q : ℕ) × BestOf p c q) ⊎ ((d : ℕ) → d < c → ¬ Child n par p d)
           → ((q : ℕ) × BestOf p (suc c) q) ⊎ ((d : ℕ) → d < suc c → ¬ Child n par p d)
@@ -85,7 +85,7 @@ module _ {n : ℕ} {par place : ℕ → ℕ} (T : Tree n par place) where
       omega (arith, o.1 e, q.1 (sym e))
 
   unfoldable pub main? : (p c : ℕ) → Dec (Main (Child n par) n p c)
-  main? p c = pick (child? T p c)
+  main? p c = pick (child? p c)
     where
       same : (t : (m : ℕ) × Main (Child n par) n p m) → Dec (t.0 ≡ c) → Dec (Main (Child n par) n p c)
       same t (yes e) = yes (rw e at t.1)

@@ -1,18 +1,36 @@
 // Sweeps over the walk's order: the leaves below each node, its main child, its head. The counts may stand in the array
 // that then holds the heads: heads are found by the main children alone.
-ghost use Rattle.std.specs.Prelude.{◌≤◌, ◌<◌};
+ghost use Rattle.std.specs.Prelude.{ℕ, ◌≤◌, ◌<◌, List};
 ghost use Rattle.reach.specs.work.Grown.{Ordered};
 ghost use Rattle.spines.specs.work.Parents.{HeadsAll};
-ghost use Rattle.spines.specs.work.Sweeps.{LeavesAll, Least, Parented, MainsAll, MainTaken, Follows};
+ghost use Rattle.spines.specs.work.Sweeps.{Owns, Sums, LeavesAll, Parented, MainsAll, MainTaken, Follows};
 
-// A node with no leaves strictly below it is a leaf and counts itself.
-fn least(x: u16) -> u16
-    ensures { Least x result }
+// How many of some nodes are below each node, itself among them: backward over the order, `own` makes a node's number
+// of the sum that its children gave it, and the number goes to its parent.
+pub(crate) fn sum_up<F: Fn(u16) -> u16>(
+    parent: &[u16; 4096],
+    order: &[u16; 4096],
+    n: usize,
+    own: F,
+    sum: &mut [u16; 4096],
+)
+    requires ordered { Ordered n parent.now order.now }
+    requires owned { (L : List ℕ) × Owns L n parent.now (F.pre own) (F.post own) }
+    ensures { (L : List ℕ) → Owns L n parent.now (F.pre own) (F.post own) → Sums L n parent.now sum.new }
 {
-    x.max(1)
+    sum.fill(0);
+    for i in (1..n).rev() {
+        let v = usize::from(order[i]);
+        let p = usize::from(parent[v]);
+        let w = own(sum[v]);
+        let y = sum[p] + w;
+        sum[v] = w;
+        sum[p] = y;
+    }
+    sum[0] = own(sum[0]);
 }
 
-// How many leaves are below each node: backward over the order, each gives its leaves to its parent.
+// How many leaves are below each node: one with no leaves strictly below it is a leaf, and counts itself.
 pub(crate) fn leaves_of(
     parent: &[u16; 4096],
     order: &[u16; 4096],
@@ -22,16 +40,7 @@ pub(crate) fn leaves_of(
     requires { Ordered n parent.now order.now }
     ensures { LeavesAll n parent.now leaves.new }
 {
-    leaves.fill(0);
-    for i in (1..n).rev() {
-        let v = usize::from(order[i]);
-        let p = usize::from(parent[v]);
-        let w = least(leaves[v]);
-        let y = leaves[p] + w;
-        leaves[v] = w;
-        leaves[p] = y;
-    }
-    leaves[0] = least(leaves[0]);
+    sum_up(parent, order, n, |x| x.max(1), leaves);
 }
 
 // The better of two children, q before c; 4096 is no child, and no None: children stand in the array of 16-bit words

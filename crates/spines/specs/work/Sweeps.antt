@@ -1,19 +1,35 @@
--- The sweeps: leaf counts, main children, heads. What a later sweep needs of the counts is said of the main children,
--- so that the counts' array can be overwritten.
+-- The sweeps: counts below each node, of leaves or of others, main children, heads. What a later sweep needs of the
+-- counts is said of the main children, so that the counts' array can be overwritten.
 use Rattle.std.specs.Prelude.{ℕ, ◌≤◌, ◌<◌, ◌≡◌, ◌≢◌, List, length}
 use Rattle.arrays.specs.At.{at}
+use Rattle.arrays.specs.Members.{In}
+use Rattle.net.specs.Count.{Count}
+use Rattle.net.specs.work.Rooted.{Above}
 use Rattle.spines.specs.Spine.{Leaves, Main}
 use Rattle.spines.specs.work.Parents.{Child}
+
+-- of the nodes in a list L, those below t, itself among them
+pub record Among (L : List ℕ) (par : ℕ → ℕ) (t x : ℕ) : Type 0 where
+  pub is : In x L
+  pub below : Above par t x
+
+module _ (L : List ℕ) (n : ℕ) (parent : List ℕ) where
+  -- a step makes, of how many of L are strictly below a node, how many are below it
+  pub record Owns (pre : ℕ → Type 0) (post : ℕ → ℕ → Type 0) : Type 0 where
+    pub fits : (x : ℕ) → In x L → x < n
+    pub can : (x : ℕ) → x ≤ n → pre x
+    pub own : (v x w : ℕ) → v < n → Count (λ y. Among L (at parent) v y × (y ≢ v)) x → post x w
+        → Count (Among L (at parent) v) w
+
+  -- how many of L are below each node
+  pub record Sums (sum : List ℕ) : Type 0 where
+    pub long : length sum ≡ 4096
+    pub each : (t : ℕ) → t < n → Count (Among L (at parent) t) (at sum t)
 
 -- how many leaves are below each node
 pub record LeavesAll (n : ℕ) (parent leaves : List ℕ) : Type 0 where
   pub long : length leaves ≡ 4096
   pub each : (t : ℕ) → t < n → Leaves (Child n (at parent)) n t (at leaves t)
-
--- a node with no leaves strictly below it is one
-pub record Least (x w : ℕ) : Type 0 where
-  pub none : x ≡ 0 → w ≡ 1
-  pub some : x ≢ 0 → w ≡ x
 
 -- each of n nodes but node 0 has one of them for a parent
 pub record Parented (n : ℕ) (parent : List ℕ) : Type 0 where
