@@ -1,4 +1,3 @@
 -- Laws of numbers as bytes, by topic.
-pub mod Reading
 pub mod Stored
 pub mod There

@@ -10,16 +10,17 @@ pub fn two(s: &[u8], i: usize) -> u64
     requires { i + 2 ≤ length s.now }
     ensures { (result ≡ u16_at s.now i) × (result < 65536) }
 {
-    u64::from(s[i]) + 256 * u64::from(s[i + 1])
+    u64::from(u16::from_le_bytes([s[i], s[i + 1]]))
 }
 
 pub fn four(s: &[u8], i: usize) -> u64
     requires { i + 4 ≤ length s.now }
     ensures { (result ≡ u32_at s.now i) × (result < 4294967296) }
 {
-    two(s, i) + 65536 * two(s, i + 2)
+    u64::from(u32::from_le_bytes([s[i], s[i + 1], s[i + 2], s[i + 3]]))
 }
 
+// Two fours, and not a list of eight places.
 pub fn eight(s: &[u8], i: usize) -> u64
     requires { i + 8 ≤ length s.now }
     ensures { result ≡ u64_at s.now i }
@@ -27,7 +28,8 @@ pub fn eight(s: &[u8], i: usize) -> u64
     four(s, i) + 4294967296 * four(s, i + 4)
 }
 
-// The k lowest bytes of x, lowest first; every other byte stays.
+// The k lowest bytes of x, lowest first; every other byte stays. Any k is met, and so not by `to_le_bytes`, which has
+// eight bytes.
 pub fn put_bytes(out: &mut [u8], at: usize, x: u64, k: usize)
     requires { at + k ≤ length out.old }
     ensures { out.new ≡ sets out.old at (bytes k x) }

@@ -4,8 +4,6 @@
 #![tactic(auto)]
 
 ghost use Rattle.std.specs.Prelude.{◌≡◌, Ok, true, false, ◌+◌, ◌*◌, ◌≤◌, ◌<◌, length};
-ghost use Rattle.std.specs.Int.{w32};
-ghost use Rattle.std.proofs.Common.{to_z};
 ghost use Rattle.table.specs.Bytes.{u16_at, u32_at};
 ghost use Rattle.table.specs.Opens.{Opening, opening_refusal, Opens, Examines};
 ghost use Rattle.table.specs.Row.{Stands, PartOf, NextOf, RowOf, weight_at};
@@ -50,17 +48,14 @@ fn u16_at(s: &[u8], i: usize) -> u16
     requires { i + 2 ≤ length s.now }
     ensures { result ≡ u16_at s.now i }
 {
-    u16::from(s[i]) + 256 * u16::from(s[i + 1])
+    u16::from_le_bytes([s[i], s[i + 1]])
 }
 
 fn u32_at(s: &[u8], i: usize) -> u32
     requires { i + 4 ≤ length s.now }
     ensures { result ≡ u32_at s.now i }
 {
-    u32::from(s[i])
-        + 256 * u32::from(s[i + 1])
-        + 65536 * u32::from(s[i + 2])
-        + 16777216 * u32::from(s[i + 3])
+    u32::from_le_bytes([s[i], s[i + 1], s[i + 2], s[i + 3]])
 }
 
 // Tests 1 to 6 alone, in order.
@@ -120,17 +115,6 @@ pub fn next_row(s: &[u8], row: usize) -> usize
     if stands(s, row) { row + 1 } else { row }
 }
 
-// 32 bits as a signed number, with no step that could leave its range.
-fn signed(u: u32) -> i32
-    ensures { result ≡ to_z w32 u }
-{
-    if u < 2147483648 {
-        return u as i32;
-    }
-    let m = (4294967295 - u) as i32;
-    -1 - m
-}
-
 // A row's weight, by the table's version.
 fn weight_at(s: &[u8], row: usize) -> i32
     requires { Stands s.now row }
@@ -141,7 +125,7 @@ fn weight_at(s: &[u8], row: usize) -> i32
         let count = i32::from(u16_at(s, 22 + 12 * row));
         return count * score;
     }
-    signed(u32_at(s, 20 + 12 * row))
+    u32_at(s, 20 + 12 * row).cast_signed()
 }
 
 fn in_range(weight: i32) -> bool
