@@ -4,6 +4,7 @@ use Prim.Native.Nat.{ℕ}
 use mathlib.Core.Path.{◌≡◌, sym, ◌∙◌}
 use mathlib.Core.List.{List}
 use native.Mathlib.Omega.{arith}
+use Rattle.std.specs.Prelude.{Result, Ok}
 use Rattle.table.specs.Refuse.{Only}
 use Rattle.table.specs.Header.{nodes_of}
 use Rattle.table.proofs.Refusals.{unless_only, unless_good_only}
@@ -13,8 +14,9 @@ use Rattle.roads.proofs.Only.{reads_only}
 use Rattle.arcs.specs.Made.{TableOf}
 use Rattle.arcs.proofs.Theorems.{table_only}
 use Rattle.written.proofs.Only.{written_only}
+use Rattle.tree.specs.declared.Refusal.{Refusal}
 use Rattle.dimacs.specs.Read.{read_refusal, MakesTable, Trades, ReadOf}
-use Rattle.dimacs.specs.Write.{write_refusal, GivesTexts, VersionOne, WriteOf}
+use Rattle.dimacs.specs.Write.{write_refusal, GivesTexts, version_refusal, VersionOne, WriteOf}
 
 makes_only : (a b : Said) (bound : ℕ) (old : List ℕ) → Only (TableOf a b bound) → Only (MakesTable a b bound old)
 makes_only a b bound old one x y p q =
@@ -35,8 +37,8 @@ texts_only s n lengths weights x y p q =
     (rw (written_only (omega arith) q.long_is p.long_is, written_only (omega arith) q.heavy_is p.heavy_is)
     at q.outcome)
 
--- what it begins with gives one number
-pub version_one_only : (s : List ℕ) → Only (VersionOne ℕ (λ k r g. k) s (λ k. k ≡ 0))
+-- what it begins with gives one outcome
+pub version_one_only : (s : List ℕ) → Only (VersionOne (Result Unit Refusal) version_refusal s (λ x. x ≡ Ok tt))
 version_one_only s = unless_only (unless_only (unless_only (λ _ _ e f. e ∙ sym f)))
 
 -- WRITE HAS ONE OUTCOME

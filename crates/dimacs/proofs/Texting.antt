@@ -2,7 +2,6 @@
 -- room for both or not.
 use Prim.Native.Nat.{ℕ, ◌-◌, ◌≤◌, ◌<◌}
 use mathlib.Core.Path.{◌≡◌, ap, ◌∙◌}
-use mathlib.Core.Logic.{◌≢◌}
 use mathlib.Core.List.{List, ◌++◌}
 use native.Mathlib.Omega.{arith}
 use lib.ListN.{length, drop}
@@ -15,23 +14,27 @@ use Rattle.text.specs.work.Put.{Put}
 use Rattle.written.specs.work.Rows.{row_arc, RowsThere}
 use Rattle.written.specs.work.Texts.{text_of}
 use Rattle.written.proofs.Spelt.{lengths_written, weights_written}
-use Rattle.dimacs.specs.Write.{Wrote, write_refusal, text_in, GivesTexts, VersionOne, both_texts}
-use Rattle.std.specs.Prelude.{Ok}
+use Rattle.dimacs.specs.Write.{Wrote, write_refusal, text_in, GivesTexts, version_refusal, VersionOne, both_texts}
+use Rattle.std.specs.Prelude.{Result, Ok, Err}
+use Rattle.tree.specs.declared.Refusal.{Refusal}
 
 -- 1, 2, and 3 for any version but 1: how what begins with them hands a refusal on, and goes on
-module _ {A : Type 0} (refuse : ℕ → ℕ → ℕ → A) (s : List ℕ) {rest : A → Type 0} {k : ℕ}
-    (p : VersionOne ℕ (λ k r g. k) s (λ k. k ≡ 0) k) where
-  pub version_refused : k ≢ 0 → VersionOne A refuse s rest (refuse k 0 0)
-  version_refused n = unless_map to (λ _. unless_map to (λ _. unless_map to (λ _ e. absurd (n e)))) p
+module _ {A : Type 0} (refuse : ℕ → ℕ → ℕ → A) (s : List ℕ) {rest : A → Type 0} where
+  pub version_refused : {w : Refusal} → VersionOne (Result Unit Refusal) version_refusal s (λ x. x ≡ Ok tt) (Err w)
+      → VersionOne A refuse s rest (refuse w.number w.row w.ring)
+  version_refused p =
+      unless_map handed (λ _. unless_map handed (λ _. unless_map handed (λ _ e. absurd (grind (arith, e))))) p
     where
-      to : ℕ → A
-      to x = refuse x 0 0
+      handed : Result Unit Refusal → A
+      handed (Ok _) = refuse 0 0 0
+      handed (Err v) = refuse v.number v.row v.ring
 
-  pub version_on : k ≡ 0 → {o : A} → rest o → VersionOne A refuse s rest o
-  version_on z r =
-      let a = past (λ e. omega (arith, e, z)) p in
-      let b = past (λ e. omega (arith, e, z)) a.1 in
-      let c = past (λ e. omega (arith, e, z)) b.1 in
+  pub version_on : VersionOne (Result Unit Refusal) version_refusal s (λ x. x ≡ Ok tt) (Ok tt) → {o : A} → rest o
+      → VersionOne A refuse s rest o
+  version_on p r =
+      let a = past (λ e. grind (arith, e)) p in
+      let b = past (λ e. grind (arith, e)) a.1 in
+      let c = past (λ e. grind (arith, e)) b.1 in
       passed a.0 (passed b.0 (passed c.0 r))
 
 -- the rows of an accepted table stand

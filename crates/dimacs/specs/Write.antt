@@ -40,6 +40,10 @@ pub record GivesTexts (s : List ℕ) (n : ℕ) (lengths weights : List ℕ) (o :
       ((length long ≤ length lengths) × (length heavy ≤ length weights))
       (λ x. x ≡ (both_texts (length long) (length heavy), text_in long lengths, text_in heavy weights)) o
 
+-- what says of a table whether it is of version 1
+abbrev pub version_refusal : ℕ → ℕ → ℕ → Result Unit Refusal
+version_refusal k r g = Err (record { number = k; row = r; ring = g })
+
 -- 1, 2, and 3 for any other version than 1; and then as the rest says
 abbrev pub VersionOne : (A : Type 0) → (ℕ → ℕ → ℕ → A) → List ℕ → (A → Type 0) → A → Type 0
 VersionOne A refuse s rest =

@@ -1,11 +1,12 @@
 // The operation write: a table of version 1 to two texts. Both sizes are known before a byte is written, so that a
 // refusal has written nothing.
-ghost use Rattle.std.specs.Prelude.{◌≡◌};
+ghost use Rattle.std.specs.Prelude.{◌≡◌, Ok};
 ghost use Rattle.net.specs.work.Net.{Net};
-ghost use Rattle.dimacs.specs.Write.{GivesTexts, VersionOne, WriteOf};
+ghost use Rattle.dimacs.specs.Write.{GivesTexts, VersionOne, version_refusal, WriteOf};
 
 use crate::{Texts, WriteAnswer, rowless};
 use roads::{LENGTH_TOP, WEIGHT_TOP};
+use tree::Refusal;
 use written::{put_text, text_size};
 
 // Where a row has its length and its weight.
@@ -13,20 +14,20 @@ const LENGTH: usize = 4;
 
 const WEIGHT: usize = 8;
 
-// Between crates: 1, 2, and 3 for any version but 1; or 0, as `VersionOne` promises it.
-pub fn version_one(s: &[u8]) -> u8
-    ensures { VersionOne _ (λ k r g. k) s.now (λ k. k ≡ 0) result }
+// Between crates: 1, 2, and 3 for any version but 1.
+pub fn version_one(s: &[u8]) -> Result<(), Refusal>
+    ensures { VersionOne _ version_refusal s.now (λ x. x ≡ Ok tt) result }
 {
     if s.len() < 12 {
-        return 1;
+        return Err(rowless(1));
     }
     if s[0] != b'R' || s[1] != b'T' || s[2] != b'N' {
-        return 2;
+        return Err(rowless(2));
     }
     if numbers::two(s, 3) != 1 {
-        return 3;
+        return Err(rowless(3));
     }
-    0
+    Ok(())
 }
 
 // Of an accepted table of version 1: 29, and the two texts.
@@ -53,10 +54,7 @@ pub fn write(s: &[u8], lengths: &mut [u8], weights: &mut [u8]) -> WriteAnswer
     ensures { WriteOf s.now lengths.old weights.old
         (result, lengths.new, weights.new) }
 {
-    let k = version_one(s);
-    if k != 0 {
-        return Err(rowless(k));
-    }
+    version_one(s)?;
     let net = tree::accept(s)?;
     write_net(s, net.nodes, lengths, weights)
 }

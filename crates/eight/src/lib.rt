@@ -52,6 +52,8 @@ use vetting::{Verdict, Vetted};
 use window::WindowAnswer;
 use writer::RowAnswer;
 
+// One function an answer, and no trait: each promises an equation of its own (`accept_in_c` and the like), which
+// README and docs/PROMISES.md name.
 // Acceptance: the refusal, or nodes, bound, filler.
 pub fn show_accept(o: AcceptAnswer, answer: &mut [i64; 8]) -> u8
     requires { AcceptRoom o }

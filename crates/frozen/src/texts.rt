@@ -3,7 +3,6 @@ ghost use Rattle.frozen.specs.Calls.{WriteWith};
 
 use crate::changed::{LARGEST, changed_table};
 use dimacs::WriteAnswer;
-use tree::Refusal;
 
 // The two texts of a table of version 1; any other version is refused before the change set is looked at.
 pub fn write_with(
@@ -15,15 +14,7 @@ pub fn write_with(
     ensures { WriteWith table.now changes.now lengths.old weights.old
         (result, lengths.new, weights.new) }
 {
-    // A number, 0 for none: so `version_one` of dimacs promises it, by `VersionOne`.
-    let v = dimacs::version_one(table);
-    if v != 0 {
-        return Err(Refusal {
-            number: v,
-            row: 0,
-            ring: 0,
-        });
-    }
+    dimacs::version_one(table)?;
     let mut buffer = [0; LARGEST];
     let changed = changed_table(table, changes, &mut buffer)?;
     dimacs::write(changed, lengths, weights)

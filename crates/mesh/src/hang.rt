@@ -20,7 +20,7 @@ use crate::header::Head;
 use net::{first_end, second_end};
 
 // For each node its parent, the nodes in the order in which they were hung up, and for each node its place in that
-// order, 256 for one that does not hang: places are compared with each other, and 256 is behind all.
+// order, 256 for one that does not hang: as Options each comparison of two places in `later` would unwrap both.
 #[derive(Drop)]
 pub(crate) struct Tree {
     pub par: [u16; 256],

@@ -66,7 +66,7 @@ fn leads(s: &[u8], h: usize) -> usize
 }
 
 // For each node the chain of the half-branches that leave it, each by one more than its number, from the highest down
-// to 0.
+// to 0. Numbers, and no Option: an array of Options would take twice the memory.
 fn chains(s: &[u8], rows: usize, first: &mut [u16; 4096], next: &mut [u16; 8192])
     requires { Readable s.now rows }
     ensures { Chained (first_end s.now) (second_end s.now) rows (2 * rows)
@@ -136,7 +136,7 @@ fn reach(
     ensures { Placed (WalkedFrom start (first_end s.now) (second_end s.now) rows result
         parent.new half.new order.new) }
 {
-    // 4096 is no parent.
+    // 4096 is no parent, a form that document 01 names (docs/FORMS.md).
     *parent = [4096; 4096];
     half.fill(0);
     order.fill(0);

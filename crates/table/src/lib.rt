@@ -96,7 +96,7 @@ fn stands(s: &[u8], row: usize) -> bool
     24 <= s.len() && row <= (s.len() - 24) / 12
 }
 
-// The caller's own 12 bytes of a row, or an empty part where fewer stand there.
+// The caller's own 12 bytes of a row, or an empty part where fewer stand there, as `PartOf` promises C's callers.
 pub fn row_part(s: &[u8], row: usize) -> &[u8]
     ensures { PartOf s.now s.entry.ref_ptr row result.now result.ref_ptr }
 {

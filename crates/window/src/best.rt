@@ -50,13 +50,7 @@ fn better(b: Found, u: usize, v: usize, y: u64, x: u64) -> Found
             hit: 1,
         };
     }
-    Found {
-        low: b.low,
-        high: b.high,
-        count: b.count,
-        weight: b.weight,
-        hit: 1,
-    }
+    Found { hit: 1, ..b }
 }
 
 // The second nodes of u in turn.
@@ -73,13 +67,7 @@ fn among(
     ensures { Bettered (Here (InLimits counts) key.now key.now wt.now u (u + 1)
         sums n) b result }
 {
-    let mut best = Found {
-        low: b.low,
-        high: b.high,
-        count: b.count,
-        weight: b.weight,
-        hit: 0,
-    };
+    let mut best = Found { hit: 0, ..b };
     for v in u + 1..n {
         if takes(key[v], wt[v], counts, sums, best.count) {
             best = better(best, u, v, key[v], wt[v]);
