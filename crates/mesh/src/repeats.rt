@@ -71,10 +71,8 @@ pub(crate) fn first_repeat(s: &[u8], head: Head) -> Option<usize>
         (λ r. FirstRepeat (first_end s.now) (second_end s.now) head.rows r) }
 {
     let mut r = top(head.rows);
-    let mut from: usize = 0;
-    while from < 256 * head.nodes {
+    for from in (0..256 * head.nodes).step_by(16384) {
         r = repeat_in(s, from, r);
-        from += 16384;
     }
     if r < head.rows { Some(r) } else { None }
 }
