@@ -1,6 +1,6 @@
 -- A text of any number of arcs, chunk by chunk: its arcs looked up in one chunk, and its chunks looked up in one by
 -- one.
-use Prim.Native.Nat.{ℕ, ◌+◌, ◌-◌, ◌≤◌, ◌<◌}
+use Prim.Native.Nat.{ℕ, ◌+◌, ◌≤◌, ◌<◌}
 use mathlib.Core.Path.{◌≡◌, ◌∙◌}
 use mathlib.Core.Bool.{Bool, true, false}
 use mathlib.Core.List.{List}
@@ -12,7 +12,7 @@ use Rattle.roads.specs.Text.{Arc}
 use Rattle.arcs.specs.Arcs.{arcs_of}
 use Rattle.roads.specs.work.Line.{KindFits}
 use Rattle.roads.specs.declared.line.Kind.{Kind}
-use Rattle.arcs.specs.work.Chunk.{Tail, TailOf, ChunkOf, WholeIn, Loaded, ChunkEnd, Answers}
+use Rattle.arcs.specs.work.Chunk.{Tail, TailOf, ChunkOf, WholeIn, Loaded, Answers}
 use Rattle.arcs.specs.work.Look.{MatchedBelow, LookedUp, ChunkIn, ArcsIn, Looked}
 use Rattle.arcs.proofs.Loading.{arcs_fit}
 use Rattle.arcs.proofs.Looks.{looked_none, arcs_in, arcs_not_in, matched_none, looked_fault, looked_all}
@@ -26,17 +26,15 @@ module _ {kind : Kind} {s : List ℕ} {all : List Arc} where
   stood_first t = record { tail = t.says }
 
   -- a chunk further
-  module _ {at m c start end d : ℕ} {chunk : List ℕ} (t : TailOf kind s at m all) (l : start < m)
-      (e : ChunkEnd start m end) (w : Loaded kind s c (end - start) d chunk) (p : Stood kind s c start all) where
-    room : start + (end - start) ≤ length all
-    room = omega (arith, e.more l, e.within (omega arith), t.count)
+  module _ {at m c start n d : ℕ} {chunk : List ℕ} (t : TailOf kind s at m all) (l : start + n ≤ m)
+      (w : Loaded kind s c n d chunk) (p : Stood kind s c start all) where
+    room : start + n ≤ length all
+    room = omega (arith, t.count)
 
-    pub stood_next : Stood kind s d end all
-    stood_next =
-        let q : start + (end - start) ≡ end = omega (arith, e.more l) in
-        record { tail = rw (q) at (w.on all start p.tail room) }
+    pub stood_next : Stood kind s d (start + n) all
+    stood_next = record { tail = w.on all start p.tail room }
 
-    pub stood_chunk : ChunkOf (arcs_of all) start (end - start) chunk
+    pub stood_chunk : ChunkOf (arcs_of all) start n chunk
     stood_chunk = w.stands all start p.tail room
 
 -- a text that fits one chunk
@@ -68,29 +66,26 @@ module _ (kind : Kind) (s : List ℕ) (place m : ℕ) (strict : Bool) (k : ℕ) 
     so_far = λ all t. looked_none strict (arcs_of all) k chunk f b;
   }
 
-  module _ {start end c d : ℕ} {others seen after : List ℕ} {r : Bool} (l : start < m) (e : ChunkEnd start m end)
-      (w : Loaded kind s c (end - start) d others) (i : ChunkIn strict (end - start) others k chunk seen after r)
+  module _ {start n c d : ℕ} {others seen after : List ℕ} {r : Bool} (l : start + n ≤ m)
+      (w : Loaded kind s c n d others) (i : ChunkIn strict n others k chunk seen after r)
       (p : Streaming kind s place m strict k chunk start c seen) where
-    pub streaming_more : r ≡ true → Streaming kind s place m strict k chunk end d after
-    streaming_more h =
-        let q : start + (end - start) ≡ end = omega (arith, e.more l) in
-        record {
-          stood = λ all t. stood_next t l e w (p.stood all t);
-          so_far = λ all t. rw (q)
-              at (i.there h (arcs_of all) start (stood_chunk t l e w (p.stood all t)) (p.so_far all t));
-        }
+    pub streaming_more : r ≡ true → Streaming kind s place m strict k chunk (start + n) d after
+    streaming_more h = record {
+      stood = λ all t. stood_next t l w (p.stood all t);
+      so_far = λ all t. i.there h (arcs_of all) start (stood_chunk t l w (p.stood all t)) (p.so_far all t);
+    }
 
     pub streamed_fault : r ≡ false → (all : List Arc) → TailOf kind s place m all
         → ArcsIn strict (arcs_of all) k chunk false
     streamed_fault h all t =
-        arcs_not_in (i.fault h (arcs_of all) start (stood_chunk t l e w (p.stood all t)) (p.so_far all t))
+        arcs_not_in (i.fault h (arcs_of all) start (stood_chunk t l w (p.stood all t)) (p.so_far all t))
 
-  pub streamed : (start c : ℕ) (seen : List ℕ) {q : Bool} → start ≡ m
-      → Streaming kind s place m strict k chunk start c seen → Answers ((i : ℕ) → i < k → at seen i ≡ 0 → ⊥) q
-      → (all : List Arc) → TailOf kind s place m all → ArcsIn strict (arcs_of all) k chunk q
+  pub streamed : {start c : ℕ} {seen : List ℕ} {q : Bool} → Streaming kind s place m strict k chunk start c seen
+      → start ≡ m → Answers ((i : ℕ) → i < k → at seen i ≡ 0 → ⊥) q → (all : List Arc) → TailOf kind s place m all
+      → ArcsIn strict (arcs_of all) k chunk q
   unfolding arcs_of
-  streamed start c seen e p d all t =
-      let q : start ≡ length all = e ∙ t.count in
+  streamed {seen = seen} p e d all t =
+      let q = e ∙ t.count in
       arcs_in strict (arcs_of all) k chunk seen (rw (q) at (p.so_far all t)) d
 
 -- the chunks of a text up to start, each with all arcs of the other looked up in it
@@ -107,26 +102,22 @@ module _ (ka : Kind) (a : List ℕ) (ia : ℕ) (kb : Kind) (b : List ℕ) (ib m 
     so_far = λ x t y u. matched_none strict (arcs_of x) (arcs_of y);
   }
 
-  module _ {start end c d : ℕ} {chunk : List ℕ} {r : Bool} (l : start < m) (e : ChunkEnd start m end)
-      (w : Loaded ka a c (end - start) d chunk)
-      (i : (y : List Arc) → TailOf kb b ib m y → ArcsIn strict (arcs_of y) (end - start) chunk r)
+  module _ {start n c d : ℕ} {chunk : List ℕ} {r : Bool} (l : start + n ≤ m) (w : Loaded ka a c n d chunk)
+      (i : (y : List Arc) → TailOf kb b ib m y → ArcsIn strict (arcs_of y) n chunk r)
       (p : Meeting ka a ia kb b ib m strict start c) where
-    pub meeting_more : r ≡ true → Meeting ka a ia kb b ib m strict end d
-    meeting_more h =
-        let q : start + (end - start) ≡ end = omega (arith, e.more l) in
-        record {
-          stood = λ x t. stood_next t l e w (p.stood x t);
-          so_far = λ x t y u. rw (q)
-              at ((i y u).there h (arcs_of x) start (stood_chunk t l e w (p.stood x t)) (p.so_far x t y u));
-        }
+    pub meeting_more : r ≡ true → Meeting ka a ia kb b ib m strict (start + n) d
+    meeting_more h = record {
+      stood = λ x t. stood_next t l w (p.stood x t);
+      so_far = λ x t y u. (i y u).there h (arcs_of x) start (stood_chunk t l w (p.stood x t)) (p.so_far x t y u);
+    }
 
     pub met_fault : r ≡ false → (x : List Arc) → TailOf ka a ia m x → (y : List Arc) → TailOf kb b ib m y
         → Looked strict (arcs_of x) (arcs_of y) false
     met_fault h x t y u =
         looked_fault strict (arcs_of x) (arcs_of y)
-        ((i y u).fault h (arcs_of x) start (stood_chunk t l e w (p.stood x t)))
+        ((i y u).fault h (arcs_of x) start (stood_chunk t l w (p.stood x t)))
 
-  pub met : (start c : ℕ) → start ≡ m → Meeting ka a ia kb b ib m strict start c → (x : List Arc) → TailOf ka a ia m x
+  pub met : {start c : ℕ} → Meeting ka a ia kb b ib m strict start c → start ≡ m → (x : List Arc) → TailOf ka a ia m x
       → (y : List Arc) → TailOf kb b ib m y → Looked strict (arcs_of x) (arcs_of y) true
   unfolding arcs_of
-  met start c e p x t y u = looked_all strict (arcs_of x) (arcs_of y) start (e ∙ t.count) (p.so_far x t y u)
+  met {start} p e x t y u = looked_all strict (arcs_of x) (arcs_of y) start (e ∙ t.count) (p.so_far x t y u)

@@ -11,7 +11,6 @@ ghost use Rattle.arcs.specs.work.Chunk.{
   LastAt,
   Buckets,
   Searchable,
-  ChunkEnd,
 };
 
 use roads::{Kind, Step, next_arc};
@@ -133,12 +132,4 @@ impl Links {
         }
         None
     }
-}
-
-// Where the chunk that begins at start ends, of m arcs.
-pub(crate) fn end_of(start: usize, m: usize) -> usize
-    requires { start ≤ m }
-    ensures { ChunkEnd start m result }
-{
-    start + (m - start).min(8192)
 }

@@ -7,7 +7,7 @@ ghost use Rattle.arcs.specs.Arcs.{arcs_of};
 ghost use Rattle.arcs.specs.work.Chunk.{TailOf, Searchable};
 ghost use Rattle.arcs.specs.work.Look.{ArcsIn, Looked, Decided};
 
-use crate::chunk::{Chunk, Links, Road, Work, end_of};
+use crate::chunk::{Chunk, Links, Road, Work};
 use crate::look::{all_seen, look};
 
 // Looks the opposites of all arcs of a text up in a chunk.
@@ -26,14 +26,11 @@ fn stream(
 {
     *seen = [0; 8192];
     let mut c = b.at;
-    let mut start = 0;
-    while start < m {
-        let end = end_of(start, m);
-        c = others.load(b.text, c, b.kind, end - start);
+    for start in (0..m).step_by(8192) {
+        c = others.load(b.text, c, b.kind, (m - start).min(8192));
         if !look(strict, others, chunk, links, seen) {
             return false;
         }
-        start = end;
     }
     all_seen(seen, chunk.count)
 }
@@ -46,10 +43,8 @@ fn meets(a: Road, b: Road, m: usize, strict: bool, work: &mut Work) -> bool
         → TailOf b.entry.kind b.entry.text.now b.entry.at m y → Looked strict (arcs_of x) (arcs_of y) result }
 {
     let mut c = a.at;
-    let mut start = 0;
-    while start < m {
-        let end = end_of(start, m);
-        c = work.one.load(a.text, c, a.kind, end - start);
+    for start in (0..m).step_by(8192) {
+        c = work.one.load(a.text, c, a.kind, (m - start).min(8192));
         work.links.chain(&work.one);
         if !stream(
             b,
@@ -62,7 +57,6 @@ fn meets(a: Road, b: Road, m: usize, strict: bool, work: &mut Work) -> bool
         ) {
             return false;
         }
-        start = end;
     }
     true
 }

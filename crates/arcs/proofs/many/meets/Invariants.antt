@@ -1,5 +1,5 @@
 -- `meets`: chunk after chunk of the one text, and for each of them the other text.
-use Prim.Native.Nat.{◌-◌, ◌≤◌}
+use Prim.Native.Nat.{◌≤◌}
 use Rattle.arcs.proofs.Streams.{Meeting}
 use Rattle.arcs.proofs.many.meets.Given as goal
 
@@ -7,6 +7,3 @@ abbrev pub invariant-loop-start : goal.invariant-loop-start
 invariant-loop-start l =
     (l.start ≤ l.m)
     × Meeting l.a.kind l.a.text.now l.a.at l.b.kind l.b.text.now l.b.at l.m l.strict l.start l.c
-
-abbrev pub decreases-loop-start : goal.decreases-loop-start
-decreases-loop-start l = l.m - l.start

@@ -1,5 +1,5 @@
 -- `stream`: chunk after chunk of the text.
-use Prim.Native.Nat.{◌-◌, ◌≤◌}
+use Prim.Native.Nat.{◌≤◌}
 use mathlib.Core.Path.{◌≡◌}
 use lib.ListN.{length}
 use Rattle.arcs.proofs.Streams.{Streaming}
@@ -10,6 +10,3 @@ invariant-loop-start l =
     (l.start ≤ l.m)
     × (length l.seen ≡ 8192)
     × Streaming l.b.kind l.b.text.now l.b.at l.m l.strict l.chunk.count l.chunk.arcs l.start l.c l.seen
-
-abbrev pub decreases-loop-start : goal.decreases-loop-start
-decreases-loop-start l = l.m - l.start
