@@ -21,6 +21,7 @@ pub(crate) fn screen(list: &[u8], m: usize, row: usize, pairs: &Pairs) -> Verdic
     let mut r = row;
     let mut lack = None;
     let mut end: usize = 0;
+    // Tried as (0..n.div_ceil(2)).step_by(height): the last block leaves past the invariant, with three cases a return.
     while 2 * end < pairs.n {
         let from = end;
         end = from + height;
