@@ -119,12 +119,6 @@ pub record Downward (chunk : List ℕ) (x k i : ℕ) : Type 0 where
   pub same : 0 < i → bucket (key_at chunk (i - 1)) ≡ bucket x
   pub none : (h : ℕ) → i ≤ h → h < k → key_at chunk h ≢ x
 
--- the end of the chunk that begins at start, of m arcs
-pub record ChunkEnd (start m e : ℕ) : Type 0 where
-  pub more : start < m → start < e
-  pub few : e ≤ start + 8192
-  pub within : start ≤ m → e ≤ m
-
 -- r says whether P
 pub record Answers (P : Type 0) (r : Bool) : Type 0 where
   pub holds : r ≡ true → P
