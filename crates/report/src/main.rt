@@ -3,23 +3,15 @@
 #![tactic(auto)]
 
 use std::io;
-use streams::{large_buffer, read_full};
+use streams::{buffer, read_full};
 
-// The largest table and one byte more: enough to refuse a longer one.
-fn table_space() -> [u8; 49153] {
-    [0; 49153]
-}
-
-// A page of 262,144 rows: half of the 8 MB of stack that Linux gives a program.
-fn page_space() -> [u8; 4194304] {
-    [0; 4194304]
-}
-
+// The input has room for the largest table and one byte more, enough to refuse a longer one; a page has 262,144 rows:
+// half of the 8 MB of stack that Linux gives a program.
 fn main(rt: HostRuntime) -> io::Result<()> {
-    let mut input = table_space();
+    let mut input = buffer::<49153>();
     let n = read_full(&mut rt.stdin(), &mut input)?;
-    let mut rows = page_space();
-    let mut out = large_buffer();
+    let mut rows = buffer::<4194304>();
+    let mut out = buffer::<65536>();
     printing::print(&mut rt.stdout(), &input[..n], &mut rows, &mut out)?;
     Ok(())
 }

@@ -2,19 +2,23 @@
 // go, and bytes are written whole. std's `read_exact` and `write_all` say less of a reader that ends and of an error.
 #![tactic(auto)]
 
+mod copying;
 mod reading;
 mod writing;
 
 ghost use Rattle.std.specs.Prelude.{◌≡◌, length};
+ghost use Rattle.std.specs.List.{All};
 
-pub use reading::read_full;
+pub use copying::copy_line;
+pub use reading::{read_array, read_full};
 pub use writing::{write_all, write_both};
 
-// 65,536 zeros, for what is read or written in large parts.
-pub fn large_buffer() -> [u8; 65536]
-    ensures { 65536 ≡ length result }
+// N zeros, for what is read or written in parts as large as that.
+pub fn buffer<const N: usize>() -> [u8; N]
+    ensures length { N ≡ length result }
+    ensures zeros { All (λ byte. byte ≡ 0) result }
 {
-    [0; 65536]
+    [0; N]
 }
 
 #[cfg(test)]

@@ -2,8 +2,9 @@
 ghost use Rattle.std.specs.Prelude.{◌<◌, IfOk, OnErr, length, take};
 ghost use Rattle.std.specs.Io.{ReadsAtMost};
 ghost use Rattle.std.specs.Io.KnownBytes.{Consumes, IsAtEnd, ReadConsumes};
-ghost use Rattle.streams.specs.Front.{HasRead};
+ghost use Rattle.streams.specs.Front.{HasFilled, HasRead, HasTaken};
 
+use crate::buffer;
 use std::io;
 use std::io::{ErrorKind, Read};
 
@@ -42,4 +43,16 @@ pub fn read_full<R: Read>(from: &mut R, buf: &mut [u8]) -> io::Result<usize>
         done += count;
     }
     Ok(done)
+}
+
+// The next N bytes, and zeros behind them where the reader has fewer: that these are zeros no clause says, since std
+// leaves open what a read does to the buffer behind its bytes. An error is the reader's own; of what was read before it
+// nobody is told more than that it is no more than N bytes.
+pub fn read_array<const N: usize, R: Read>(from: &mut R) -> io::Result<[u8; N]>
+    ensures ok { IfOk result (HasFilled (R.remaining from.old) (R.remaining from.new)) }
+    ensures err { OnErr result (HasTaken N (R.remaining from.old) (R.remaining from.new)) }
+{
+    let mut bytes = buffer::<N>();
+    read_full(from, &mut bytes)?;
+    Ok(bytes)
 }

@@ -11,25 +11,7 @@ mod trading;
 use handed::Asked;
 use std::io;
 use std::io::{Read, Write};
-use streams::read_full;
-
-// 1 MB for a text, twice; and what a table of such texts takes at most. The system gives a program 8 MB of stack. Each
-// is made in a function of its own: beside other code the check of so large an array did not end in ten minutes.
-fn input_space() -> [u8; 1048576] {
-    [0; 1048576]
-}
-
-fn table_space() -> [u8; 786448] {
-    [0; 786448]
-}
-
-fn text_space() -> [u8; 180000] {
-    [0; 180000]
-}
-
-fn line_space() -> [u8; 128] {
-    [0; 128]
-}
+use streams::{buffer, read_full};
 
 // Whether the next bytes of standard input, as many as the input has, are there.
 fn filled<R: Read>(from: &mut R, input: &mut [u8]) -> io::Result<bool> {
@@ -37,18 +19,19 @@ fn filled<R: Read>(from: &mut R, input: &mut [u8]) -> io::Result<bool> {
     Ok(n == input.len())
 }
 
+// A table of such texts takes 786,448 bytes at most.
 fn read<W: Write>(to: &mut W, asked: &Asked) -> io::Result<()> {
-    let mut table = table_space();
-    let mut line = line_space();
+    let mut table = buffer::<786448>();
+    let mut line = buffer::<128>();
     trading::read(to, asked, &mut table, &mut line)?;
     Ok(())
 }
 
 fn write<W: Write>(to: &mut W, asked: &Asked) -> io::Result<()> {
-    let mut lengths = text_space();
-    let mut weights = text_space();
-    let mut line = line_space();
-    let mut other = line_space();
+    let mut lengths = buffer::<180000>();
+    let mut weights = buffer::<180000>();
+    let mut line = buffer::<128>();
+    let mut other = buffer::<128>();
     trading::write(to, asked, &mut lengths, &mut weights, &mut line, &mut other)?;
     Ok(())
 }
@@ -76,6 +59,7 @@ fn trade<R: Read, W: Write>(
     }
 }
 
+// 1 MB for a text, twice: the system gives a program 8 MB of stack.
 fn main(rt: HostRuntime) -> io::Result<()> {
     let mut from = rt.stdin();
     let mut to = rt.stdout();
@@ -84,8 +68,8 @@ fn main(rt: HostRuntime) -> io::Result<()> {
     let bound = u32::from_le_bytes([h[1], h[2], h[3], h[4]]);
     let a = u32::from_le_bytes([h[5], h[6], h[7], h[8]]) as usize;
     let b = u32::from_le_bytes([h[9], h[10], h[11], h[12]]) as usize;
-    let mut first = input_space();
-    let mut second = input_space();
+    let mut first = buffer::<1048576>();
+    let mut second = buffer::<1048576>();
     if a <= first.len() && b <= second.len() {
         trade(
             &mut from,

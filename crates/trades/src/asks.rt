@@ -2,10 +2,11 @@
 ghost use Rattle.std.specs.Prelude.{◌<◌};
 
 use crate::read::Ask;
-use crate::{read, say};
+use crate::say;
 use dimacs::WriteAnswer;
 use std::io;
 use std::io::{Read, Write};
+use streams::copy_line;
 
 // Two texts read into as many bytes as are lent, and what came of it.
 fn reading<W: Write>(
@@ -142,7 +143,7 @@ pub(crate) fn answer<R: Read, W: Write>(
 ) -> io::Result<()>
     requires { q.x < 4294967296 }
 {
-    read::text(from, to, q.text)?;
+    copy_line(from, to, q.text)?;
     let code = q.code;
     match code {
         1 => reading(to, first, second, q.x, q.y, q.shown),

@@ -9,6 +9,7 @@ mod say;
 
 use std::io;
 use std::io::{Read, Write};
+use streams::{buffer, copy_line, read_array, read_full};
 
 // The asks of a trade, one after the other, on its two inputs.
 fn each<R: Read, W: Write>(
@@ -25,12 +26,7 @@ fn each<R: Read, W: Write>(
     Ok(())
 }
 
-// Memory for an input.
-fn input_space() -> [u8; 400000] {
-    [0; 400000]
-}
-
-// Of it, as much as the input has.
+// Of the memory for an input, as much as the input has.
 fn with_second<R: Read, W: Write>(
     from: &mut R,
     to: &mut W,
@@ -41,7 +37,7 @@ fn with_second<R: Read, W: Write>(
 ) -> io::Result<()> {
     if size <= space.len() {
         let second = &mut space[0..size];
-        read::bytes(from, second)?;
+        read_full(from, second)?;
         each(from, to, first, second, asks)?;
     }
     Ok(())
@@ -57,8 +53,8 @@ fn with_first<R: Read, W: Write>(
 ) -> io::Result<()> {
     if size <= space.len() {
         let first = &mut space[0..size];
-        read::bytes(from, first)?;
-        let mut more = input_space();
+        read_full(from, first)?;
+        let mut more = buffer::<400000>();
         with_second(from, to, first, &mut more, other, asks)?;
     }
     Ok(())
@@ -66,12 +62,12 @@ fn with_first<R: Read, W: Write>(
 
 // A trade: how much it has of each thing, then the things.
 fn trade<R: Read, W: Write>(from: &mut R, to: &mut W) -> io::Result<()> {
-    let text = read::short(from)?;
-    let asks = read::short(from)?;
+    let text = u16::from_le_bytes(read_array(from)?);
+    let asks = u16::from_le_bytes(read_array(from)?);
     let first = read::number(from)?;
     let second = read::number(from)?;
-    read::text(from, to, text)?;
-    let mut space = input_space();
+    copy_line(from, to, text)?;
+    let mut space = buffer::<400000>();
     with_first(from, to, &mut space, first, second, asks)
 }
 
