@@ -6,7 +6,7 @@ ghost use Rattle.std.specs.Prelude.{◌≡◌, length};
 use crate::read::Ask;
 use crate::say::Answer;
 use crate::told::{Told, outcome, ringless};
-use crate::{anew, read, say};
+use crate::{anew, say};
 use accept::AcceptAnswer;
 use changes::Change;
 use numbers::put_bytes;
@@ -14,6 +14,7 @@ use paging::Listed;
 use spines::HeadsAnswer;
 use std::io;
 use std::io::{Read, Write};
+use streams::{copy_line, read_full};
 use vetting::Vetted;
 use window::WindowAnswer;
 use writer::RowAnswer;
@@ -265,7 +266,7 @@ fn of_list<R: Read, W: Write>(
     let whole = &mut space[..];
     if size <= whole.len() {
         let list = &mut whole[0..size];
-        read::bytes(from, list)?;
+        read_full(from, list)?;
         say::line(to, outcome(verdict_on(s, set, marks, q, list)))?;
     }
     Ok(())
@@ -279,7 +280,7 @@ pub(crate) fn answer<R: Read, W: Write>(
     marks: &mut [u16],
     q: Ask,
 ) -> io::Result<()> {
-    read::text(from, to, q.text)?;
+    copy_line(from, to, q.text)?;
     let sort = q.code / 16;
     match sort {
         0 | 8 => of_table(to, s, set, q),

@@ -12,6 +12,7 @@ mod told;
 use crate::read::Sizes;
 use std::io;
 use std::io::{Read, Write};
+use streams::{copy_line, read_array, read_full};
 
 // The asks of a case, one after the other, on one table, one change set and one set of marks.
 fn each<R: Read, W: Write>(
@@ -58,7 +59,7 @@ fn with_set<R: Read, W: Write>(
     let whole = &mut space[..];
     if size <= whole.len() {
         let set = &mut whole[..size];
-        read::bytes(from, set)?;
+        read_full(from, set)?;
         with_marks(from, to, s, set, sizes)?;
     }
     Ok(())
@@ -70,7 +71,7 @@ fn with_table<R: Read, W: Write>(from: &mut R, to: &mut W, sizes: Sizes) -> io::
     let whole = &mut space[..];
     if size <= whole.len() {
         let table = &mut whole[..size];
-        read::bytes(from, table)?;
+        read_full(from, table)?;
         with_set(from, to, table, sizes)?;
     }
     Ok(())
@@ -79,7 +80,7 @@ fn with_table<R: Read, W: Write>(from: &mut R, to: &mut W, sizes: Sizes) -> io::
 // A case: how much it has of each thing, then the things.
 fn case<R: Read, W: Write>(from: &mut R, to: &mut W) -> io::Result<()> {
     let sizes = read::next_case(from)?;
-    read::text(from, to, sizes.text)?;
+    copy_line(from, to, sizes.text)?;
     with_table(from, to, sizes)
 }
 
@@ -93,6 +94,6 @@ fn cases<R: Read, W: Write>(from: &mut R, to: &mut W, count: u64) -> io::Result<
 fn main(rt: HostRuntime) -> io::Result<()> {
     let mut from = rt.stdin();
     let mut to = rt.stdout();
-    let count = read::long(&mut from)?;
+    let count = u64::from_le_bytes(read_array(&mut from)?);
     cases(&mut from, &mut to, count)
 }

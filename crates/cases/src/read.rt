@@ -1,8 +1,8 @@
 // Standard input: a case's sizes, its bytes and marks, its asks, all in the order in which they stand there. Where
 // the input ends, what is missing is zeros.
 use std::io;
-use std::io::{Read, Write};
-use streams::{read_full, write_all};
+use std::io::Read;
+use streams::read_array;
 
 // How much a case has of each thing: bytes of its text, its table and its change set, marks, asks.
 #[derive(Clone, Copy)]
@@ -32,33 +32,12 @@ pub(crate) struct Ask {
     pub(crate) count_high: u32,
 }
 
-// The next number of 16 bits, the lower byte first.
-fn number<R: Read>(from: &mut R) -> io::Result<u16> {
-    let mut h = [0u8; 2];
-    read_full(from, &mut h)?;
-    Ok(u16::from_le_bytes(h))
-}
-
-// The next number of 32 bits, the lowest byte first.
-fn middle<R: Read>(from: &mut R) -> io::Result<u32> {
-    let mut h = [0u8; 4];
-    read_full(from, &mut h)?;
-    Ok(u32::from_le_bytes(h))
-}
-
-// The next number of 64 bits, the lowest byte first.
-pub(crate) fn long<R: Read>(from: &mut R) -> io::Result<u64> {
-    let mut h = [0u8; 8];
-    read_full(from, &mut h)?;
-    Ok(u64::from_le_bytes(h))
-}
-
 pub(crate) fn next_case<R: Read>(from: &mut R) -> io::Result<Sizes> {
-    let text = number(from)?;
-    let table = number(from)?;
-    let set = number(from)?;
-    let marks = number(from)?;
-    let asks = number(from)?;
+    let text = u16::from_le_bytes(read_array(from)?);
+    let table = u16::from_le_bytes(read_array(from)?);
+    let set = u16::from_le_bytes(read_array(from)?);
+    let marks = u16::from_le_bytes(read_array(from)?);
+    let asks = u16::from_le_bytes(read_array(from)?);
     Ok(Sizes {
         text,
         table,
@@ -69,17 +48,17 @@ pub(crate) fn next_case<R: Read>(from: &mut R) -> io::Result<Sizes> {
 }
 
 pub(crate) fn next_ask<R: Read>(from: &mut R) -> io::Result<Ask> {
-    let code = number(from)?;
-    let text = number(from)?;
-    let lent = usize::from(number(from)?);
-    let shown = usize::from(number(from)?);
-    let run = number(from)?;
-    let a = number(from)?;
-    let b = number(from)?;
-    let x = long(from)?;
-    let sum_high = long(from)?;
-    let count_low = middle(from)?;
-    let count_high = middle(from)?;
+    let code = u16::from_le_bytes(read_array(from)?);
+    let text = u16::from_le_bytes(read_array(from)?);
+    let lent = usize::from(u16::from_le_bytes(read_array(from)?));
+    let shown = usize::from(u16::from_le_bytes(read_array(from)?));
+    let run = u16::from_le_bytes(read_array(from)?);
+    let a = u16::from_le_bytes(read_array(from)?);
+    let b = u16::from_le_bytes(read_array(from)?);
+    let x = u64::from_le_bytes(read_array(from)?);
+    let sum_high = u64::from_le_bytes(read_array(from)?);
+    let count_low = u32::from_le_bytes(read_array(from)?);
+    let count_high = u32::from_le_bytes(read_array(from)?);
     Ok(Ask {
         code,
         text,
@@ -95,27 +74,9 @@ pub(crate) fn next_ask<R: Read>(from: &mut R) -> io::Result<Ask> {
     })
 }
 
-// The next text of the input, written as it stands.
-pub(crate) fn text<R: Read, W: Write>(from: &mut R, to: &mut W, count: u16) -> io::Result<()> {
-    let size = usize::from(count);
-    let mut space = [0u8; 512];
-    let whole = &mut space[..];
-    if size <= whole.len() {
-        let line = &mut whole[0..size];
-        read_full(from, line)?;
-        write_all(to, line)?;
-    }
-    Ok(())
-}
-
-pub(crate) fn bytes<R: Read>(from: &mut R, buf: &mut [u8]) -> io::Result<()> {
-    read_full(from, buf)?;
-    Ok(())
-}
-
 pub(crate) fn marks<R: Read>(from: &mut R, marks: &mut [u16]) -> io::Result<()> {
     for mark in marks.iter_mut() {
-        *mark = number(from)?;
+        *mark = u16::from_le_bytes(read_array(from)?);
     }
     Ok(())
 }
