@@ -7,7 +7,7 @@ ghost use Rattle.std.specs.Prelude.{◌<◌};
 
 use std::io;
 use std::io::{Read, Write};
-use streams::{large_buffer, read_full};
+use streams::{buffer, read_full};
 
 fn word(low: u8, high: u8) -> usize
     ensures { result < 65536 }
@@ -49,10 +49,10 @@ fn main(rt: HostRuntime) -> io::Result<()> {
     let mut h = [0u8; 4];
     read_full(&mut from, &mut h)?;
     let mut room = Room {
-        input: large_buffer(),
-        changes: large_buffer(),
-        rows: large_buffer(),
-        out: large_buffer(),
+        input: buffer::<65536>(),
+        changes: buffer::<65536>(),
+        rows: buffer::<65536>(),
+        out: buffer::<65536>(),
     };
     for _ in 0..word(h[0], h[1]) {
         room.case(&mut from, &mut to)?;
