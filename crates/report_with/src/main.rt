@@ -6,22 +6,7 @@
 
 use std::io;
 use std::io::{Read, Write};
-use streams::{large_buffer, read_full};
-
-// The largest table and one byte more: enough to refuse a longer one.
-fn table_space() -> [u8; 49153] {
-    [0; 49153]
-}
-
-// 1 MB for a set, of which a good one has 57,336 bytes at most.
-fn set_space() -> [u8; 1048576] {
-    [0; 1048576]
-}
-
-// A page of 262,144 rows: half of the 8 MB of stack that Linux gives a program.
-fn page_space() -> [u8; 4194304] {
-    [0; 4194304]
-}
+use streams::{buffer, read_full};
 
 // Whether the next bytes of standard input, as many as the input has, are there.
 fn filled<R: Read>(from: &mut R, input: &mut [u8]) -> io::Result<bool> {
@@ -29,6 +14,7 @@ fn filled<R: Read>(from: &mut R, input: &mut [u8]) -> io::Result<bool> {
     Ok(n == input.len())
 }
 
+// A page has 262,144 rows: half of the 8 MB of stack that Linux gives a program.
 fn show<R: Read, W: Write>(
     from: &mut R,
     to: &mut W,
@@ -38,12 +24,14 @@ fn show<R: Read, W: Write>(
     if !filled(from, table)? || !filled(from, changes)? {
         return Ok(());
     }
-    let mut rows = page_space();
-    let mut out = large_buffer();
+    let mut rows = buffer::<4194304>();
+    let mut out = buffer::<65536>();
     printing::print_with(to, table, changes, &mut rows, &mut out)?;
     Ok(())
 }
 
+// The table has room for the largest one and one byte more, enough to refuse a longer one; the set has 1 MB, of which a
+// good one has 57,336 bytes at most.
 fn main(rt: HostRuntime) -> io::Result<()> {
     let mut from = rt.stdin();
     let mut to = rt.stdout();
@@ -51,8 +39,8 @@ fn main(rt: HostRuntime) -> io::Result<()> {
     read_full(&mut from, &mut h)?;
     let a = u32::from_le_bytes([h[0], h[1], h[2], h[3]]) as usize;
     let b = u32::from_le_bytes([h[4], h[5], h[6], h[7]]) as usize;
-    let mut table = table_space();
-    let mut changes = set_space();
+    let mut table = buffer::<49153>();
+    let mut changes = buffer::<1048576>();
     if a <= table.len() && b <= changes.len() {
         show(&mut from, &mut to, &mut table[..a], &mut changes[..b])?;
     }
