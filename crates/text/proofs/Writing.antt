@@ -1,11 +1,13 @@
--- The loops that count and write digits: each invariant, and for each turn of the loop one law that keeps it.
-use mathlib.Core.Path.{◌≡◌, refl, sym, ◌∙◌}
+-- The loops that write words, and count and write digits: each invariant, and for each turn of the loop one law that
+-- keeps it.
+use mathlib.Core.Path.{◌≡◌, refl, sym, ap, ◌∙◌}
 use mathlib.Core.List.{List, [], ◌∷◌}
 use Prim.Native.Nat.{ℕ, zero, suc, ◌+◌, ◌-◌, ◌*◌, ◌/◌, ◌%◌, ◌≤◌, ◌<◌}
 use native.Mathlib.Omega.{arith}
 use native.Mathlib.Nat.{zero-add}
-use lib.ListN.{length, set}
-use lib.Seq.{sets, set_comm}
+use native.Mathlib.Numerals.{add-one}
+use lib.ListN.{length, get_or, set, take}
+use lib.Seq.{sets, set_comm, take-suc, take_all, length-take-le}
 use Rattle.arrays.proofs.Stores.{sets_append}
 use Rattle.text.specs.Decimal.{decimal}
 use Rattle.text.specs.work.Put.{Put}
@@ -56,3 +58,18 @@ unfolding digits
 digits_put x zero y e h l f =
     put_sets (omega (arith, e)) h (rw (size_text (length_size x)).0 (rw e at f))
 digits_put x (suc j) y e h l f = absurd (omega arith)
+
+-- a word's bytes are stored one after the other: one more
+pub word_next : (old word : List ℕ) {out : List ℕ} (at : ℕ) {i : ℕ} → out ≡ sets old at (take i word)
+    → i < length word → set out (at + i) (get_or word i 0) ≡ sets old at (take (i + 1) word)
+word_next old word {out} at {i} h l = rw (add-one, take-suc word i 0 l)
+    (rw h
+    (sym
+    (sets_append old at (at + i) (take i word) (get_or word i 0 ∷ [])
+    (omega (arith, length-take-le i word (omega arith))))))
+
+-- all are stored
+pub word_put : {old out word : List ℕ} {at i : ℕ} → at + length word ≤ length old → length word ≤ i
+    → out ≡ sets old at (take i word) → Put old at word out (at + length word)
+word_put {old} {out} {word} {at} {i} r m h =
+    put_sets refl r (h ∙ ap (λ (l : List ℕ). sets old at l) (take_all i word m))
