@@ -15,9 +15,7 @@ pub struct Limit {
 pub fn fits(limit: Limit, length: u64) -> bool
     ensures { Decides (Fits limit length) result }
 {
-    if limit.exact {
-        length == limit.most
-    } else {
-        length <= limit.most
-    }
+    // By the greatest length first, in either mode: told apart by the mode, it would be tested before a page's floor,
+    // which few pairs pass.
+    length <= limit.most && (!limit.exact || length == limit.most)
 }
