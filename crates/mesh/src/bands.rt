@@ -45,23 +45,23 @@ fn extra(d: usize, e: usize, p: usize, q: usize) -> bool
     d != q && e != p
 }
 
-// For all rows that are no node's own; None as soon as two pass over one node.
-pub(crate) fn passes(s: &[u8], rows: usize, tree: &Tree) -> Option<[u16; 256]>
+// For all rows that are no node's own; false as soon as two pass over one node.
+pub(crate) fn passes(s: &[u8], rows: usize, tree: &Tree, over: &mut [u16; 256]) -> bool
     requires { MeshReadable s.now rows 256
         × SomeHung (first_end s.now) (second_end s.now) rows tree.now.par tree.now.place }
-    ensures { PassesEnd (first_end s.now) (second_end s.now) rows tree.now.par tree.now.place result }
+    ensures { PassesEnd (first_end s.now) (second_end s.now) rows tree.now.par tree.now.place over.new result }
 {
-    let mut over: [u16; 256] = [256; 256];
+    over.fill(256);
     for r in 0..rows {
         let p = first_end(s, r);
         let q = second_end(s, r);
         if extra(usize::from(tree.par[p]), usize::from(tree.par[q]), p, q)
-            && !round(tree, p, q, &mut over)
+            && !round(tree, p, q, over)
         {
-            return None;
+            return false;
         }
     }
-    Some(over)
+    true
 }
 
 // A node that no row passes over is a band by itself.
@@ -80,19 +80,15 @@ pub(crate) struct Bands {
 }
 
 // Names the bands of one node, and counts the nodes of each band.
-pub(crate) fn sizes(n: usize, over: [u16; 256]) -> Bands
-    requires { (n ≤ 256) × (length over ≡ 256) × ((x : ℕ) → x < n → at over x ≤ 256) }
-    ensures { NamedFrom n over result.over × (length result.over ≡ 256)
-        × BandSizes n result.over result.size }
+pub(crate) fn sizes(n: usize, bands: &mut Bands)
+    requires { (n ≤ 256) × (length bands.old.over ≡ 256) × ((x : ℕ) → x < n → at bands.old.over x ≤ 256) }
+    ensures { NamedFrom n bands.old.over bands.new.over × (length bands.new.over ≡ 256)
+        × BandSizes n bands.new.over bands.new.size }
 {
-    let mut bands = Bands {
-        over,
-        size: [0; 256],
-    };
+    bands.size.fill(0);
     for x in 0..n {
         let g = named(bands.over[x], x);
         bands.over[x] = g as u16;
         bands.size[g] += 1;
     }
-    bands
 }

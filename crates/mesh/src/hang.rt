@@ -28,23 +28,20 @@ pub(crate) struct Tree {
     pub place: [u16; 256],
 }
 
-// The root alone.
-fn start(a: usize) -> Tree
-    requires { a < 256 }
-    ensures { RootAlone a result.par result.order result.place }
-{
-    let mut tree = Tree {
-        par: [0; 256],
-        order: [0; 256],
-        place: [256; 256],
-    };
-    tree.par[a] = a as u16;
-    tree.order[0] = a as u16;
-    tree.place[a] = 0;
-    tree
-}
-
 impl Tree {
+    // The root alone, in place of what hung here.
+    fn start(&mut self, a: usize)
+        requires { a < 256 }
+        ensures { RootAlone a self.new.par self.new.order self.new.place }
+    {
+        self.par.fill(0);
+        self.order.fill(0);
+        self.place.fill(256);
+        self.par[a] = a as u16;
+        self.order[0] = a as u16;
+        self.place[a] = 0;
+    }
+
     // Hangs c up below d, in the order as the m-th.
     fn hang(&mut self, m: usize, c: usize, d: usize)
         requires { (m < 256) × (c < 256) × (d < 256) }
@@ -100,7 +97,12 @@ pub(crate) fn spread(s: &[u8], head: Head) -> Option<Tree>
     ensures { MatchOption result (¬ Connected (first_end s.now) (second_end s.now) head.rows head.nodes)
         (λ t. HungAt (first_end s.now) (second_end s.now) head.rows head.nodes 0 t.par t.order t.place) }
 {
-    let mut tree = start(0);
+    let mut tree = Tree {
+        par: [0; 256],
+        order: [0; 256],
+        place: [0; 256],
+    };
+    tree.start(0);
     let mut m: usize = 1;
     while let Some(r) = leads(s, head.rows, &tree.place) {
         let p = first_end(s, r);
@@ -117,12 +119,12 @@ pub(crate) fn spread(s: &[u8], head: Head) -> Option<Tree>
 }
 
 // The tree of node 0 hung up at node a: first the climb from a to node 0, turned round, then every other node below its
-// old parent, in the old order.
-pub(crate) fn turn(n: usize, old: &Tree, a: usize) -> Tree
+// old parent, in the old order. Into a tree that is lent, since it is done for each root.
+pub(crate) fn turn(n: usize, old: &Tree, a: usize, tree: &mut Tree)
     requires { SomeTree n old.now.par old.now.order × (a < n) }
-    ensures { TurnedTo n old.now.par old.now.order a result.par result.order result.place }
+    ensures { TurnedTo n old.now.par old.now.order a tree.new.par tree.new.order tree.new.place }
 {
-    let mut tree = start(a);
+    tree.start(a);
     let mut m: usize = 1;
     let mut x = a;
     while x != 0 {
@@ -139,5 +141,4 @@ pub(crate) fn turn(n: usize, old: &Tree, a: usize) -> Tree
             m += 1;
         }
     }
-    tree
 }

@@ -21,8 +21,10 @@ ghost use Rattle.mesh.specs.work.Hung.{HungAt};
 ghost use Rattle.mesh.specs.work.Bands.{NoRepeat};
 ghost use Rattle.mesh.specs.work.Roots.{FromRoot};
 
+use crate::bands::Bands;
 use crate::hang::Tree;
 use crate::header::Head;
+use crate::sweep::Swept;
 use tree::Refusal;
 
 // The most branches on a simple path, and the two ends of the first path that has so many.
@@ -43,6 +45,14 @@ struct Far {
     node: usize,
 }
 
+// What the search from a root fills: lent to each root in turn, so that no root copies or moves an array.
+#[derive(Drop)]
+struct Work {
+    tree: Tree,
+    bands: Bands,
+    swept: Swept,
+}
+
 // A mesh's refusals name no ring.
 fn refusal(number: u8, row: usize) -> Refusal
     ensures { result ≡ record { number = number; row = row; ring = 0 } }
@@ -55,7 +65,7 @@ fn refusal(number: u8, row: usize) -> Refusal
 }
 
 // The most branches on a simple path from node a; None for 38.
-fn from_root(s: &[u8], head: Head, tree0: &Tree, a: usize) -> Option<Far>
+fn from_root(s: &[u8], head: Head, tree0: &Tree, a: usize, work: &mut Work) -> Option<Far>
     requires { MeshReadable s.now head.rows head.nodes
         × HungAt (first_end s.now) (second_end s.now) head.rows head.nodes 0
         tree0.now.par tree0.now.order tree0.now.place
@@ -63,13 +73,15 @@ fn from_root(s: &[u8], head: Head, tree0: &Tree, a: usize) -> Option<Far>
     ensures { MatchOption result (¬ OneRing (first_end s.now) (second_end s.now) head.rows)
         (λ f. FromRoot (first_end s.now) (second_end s.now) head.rows a f.branches f.node × (f.node < head.nodes)) }
 {
-    let tree = hang::turn(head.nodes, tree0, a);
-    let over = bands::passes(s, head.rows, &tree)?;
-    let bands = bands::sizes(head.nodes, over);
-    let swept = sweep::sweep(head.nodes, &tree, &bands);
-    let node = sweep::farthest(&swept.most, head.nodes);
+    hang::turn(head.nodes, tree0, a, &mut work.tree);
+    if !bands::passes(s, head.rows, &work.tree, &mut work.bands.over) {
+        return None;
+    }
+    bands::sizes(head.nodes, &mut work.bands);
+    sweep::sweep(head.nodes, &work.tree, &work.bands, &mut work.swept);
+    let node = sweep::farthest(&work.swept.most, head.nodes);
     Some(Far {
-        branches: swept.most[node],
+        branches: work.swept.most[node],
         node,
     })
 }
@@ -84,11 +96,27 @@ fn from_all(s: &[u8], head: Head) -> MeshAnswer
     let Some(tree) = hang::spread(s, head) else {
         return Err(refusal(37, 0));
     };
+    let mut work = Work {
+        tree: Tree {
+            par: [0; 256],
+            order: [0; 256],
+            place: [0; 256],
+        },
+        bands: Bands {
+            over: [0; 256],
+            size: [0; 256],
+        },
+        swept: Swept {
+            most: [0; 256],
+            base: [0; 256],
+            climb: [0; 256],
+        },
+    };
     let mut branches: u16 = 0;
     let mut low: usize = 0;
     let mut high: usize = 0;
     for a in 0..head.nodes {
-        let Some(far) = from_root(s, head, &tree, a) else {
+        let Some(far) = from_root(s, head, &tree, a, &mut work) else {
             return Err(refusal(38, 0));
         };
         if branches < far.branches {

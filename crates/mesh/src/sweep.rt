@@ -47,16 +47,14 @@ pub(crate) struct Swept {
 }
 
 // Root first, each node after its parent.
-pub(crate) fn sweep(n: usize, tree: &Tree, bands: &Bands) -> Swept
+pub(crate) fn sweep(n: usize, tree: &Tree, bands: &Bands, swept: &mut Swept)
     requires { InOrder n tree.now.par tree.now.order × BandSizes n bands.now.over bands.now.size }
-    ensures { Computed n (at tree.now.order 0) tree.now.par bands.now.over result.most
-        result.base result.climb × (length result.most ≡ 256) }
+    ensures { Computed n (at tree.now.order 0) tree.now.par bands.now.over swept.new.most
+        swept.new.base swept.new.climb × (length swept.new.most ≡ 256) }
 {
-    let mut swept = Swept {
-        most: [0; 256],
-        base: [0; 256],
-        climb: [0; 256],
-    };
+    swept.most.fill(0);
+    swept.base.fill(0);
+    swept.climb.fill(0);
     for j in 1..n {
         let z = usize::from(tree.order[j]);
         let p = usize::from(tree.par[z]);
@@ -73,7 +71,6 @@ pub(crate) fn sweep(n: usize, tree: &Tree, bands: &Bands) -> Swept
         swept.climb[z] = t.climb;
         swept.most[z] = d;
     }
-    swept
 }
 
 // The first node with the greatest value.

@@ -5,28 +5,28 @@ use mathlib.Core.Path.{refl}
 use native.Mathlib.Omega.{arith}
 use Rattle.mesh.proofs.from_root.Goals as goal
 
-pub turn-tree-requires : goal.turn-tree-requires
-turn-tree-requires c =
+pub turn-requires : goal.turn-requires
+turn-requires c =
     let pre = c.requires in
     (record { u = _; v = _; k = _; place = _; hung = pre.1 }, pre.3)
 
 pub passes-requires : goal.passes-requires
 passes-requires c =
     let pre = c.requires in
-    (wide_readable pre.0, record { n = _; a = _; order = _; hung = c.turn-tree.ensures _ _ _ _ pre.1 })
+    (wide_readable pre.0, record { n = _; a = _; order = _; hung = c.turn.ensures _ _ _ _ pre.1 })
 
-pub returns-in_err-over : goal.returns-in_err-over
-returns-in_err-over c =
-    rw c.from_residual.ensures (c.in_err-over.ensures _ _ _ (c.turn-tree.ensures _ _ _ _ c.requires.1))
+pub returns-then-not-passes : goal.returns-then-not-passes
+returns-then-not-passes c =
+    (c.passes.ensures _ _ _ (c.turn.ensures _ _ _ _ c.requires.1)).1 c.if-not-passes.true
 
-pub sizes-bands-requires : goal.sizes-bands-requires
-sizes-bands-requires c =
-    let h = c.turn-tree.ensures _ _ _ _ c.requires.1 in
-    let d = c.in_ok-over.ensures _ _ _ h in
+pub sizes-requires : goal.sizes-requires
+sizes-requires c =
+    let h = c.turn.ensures _ _ _ _ c.requires.1 in
+    let d = (c.passes.ensures _ _ _ h).0 c.if-not-passes.false in
     (h.few, d.long, passed_low h d)
 
-pub sweep-swept-requires : goal.sweep-swept-requires
-sweep-swept-requires c = (ordered (c.turn-tree.ensures _ _ _ _ c.requires.1), c.sizes-bands.ensures.2)
+pub sweep-requires : goal.sweep-requires
+sweep-requires c = (ordered (c.turn.ensures _ _ _ _ c.requires.1), c.sizes.ensures.2)
 
 pub farthest-node-requires : goal.farthest-node-requires
 farthest-node-requires c =
@@ -36,9 +36,9 @@ farthest-node-requires c =
 pub returns : goal.returns
 returns c =
     let pre = c.requires in
-    let h = c.turn-tree.ensures _ _ _ _ pre.1 in
-    let d = c.in_ok-over.ensures _ _ _ h in
-    let g = banded h d c.sizes-bands.ensures.0 c.sizes-bands.ensures.1 in (
-      root_gives h pre.2 g (rw h.top.0 at c.sweep-swept.ensures.0) c.farthest-node.ensures refl,
+    let h = c.turn.ensures _ _ _ _ pre.1 in
+    let d = (c.passes.ensures _ _ _ h).0 c.if-not-passes.false in
+    let g = banded h d c.sizes.ensures.0 c.sizes.ensures.1 in (
+      root_gives h pre.2 g (rw h.top.0 at c.sweep.ensures.0) c.farthest-node.ensures refl,
       c.farthest-node.ensures.within,
     )

@@ -1,6 +1,6 @@
 -- The rows that are no node's own, and the nodes that each of them passes over: the bands. A band is called by one of
 -- its nodes, the end of its row that was hung up later; a node that no row passes over is a band by itself.
-use Rattle.std.specs.Prelude.{ℕ, ◌+◌, ◌≤◌, ◌<◌, ◌≡◌, ◌⊎◌, ◌≢◌, List, Bool, true, false, Option, None, Some, length}
+use Rattle.std.specs.Prelude.{ℕ, ◌+◌, ◌≤◌, ◌<◌, ◌≡◌, ◌⊎◌, ◌≢◌, List, Bool, true, false, length}
 use Rattle.arrays.specs.At.{at}
 use Rattle.net.specs.Graph.{Ends}
 use Rattle.net.specs.Count.{Count}
@@ -86,7 +86,7 @@ pub record SomeHung (u v : ℕ → ℕ) (k : ℕ) (par place : List ℕ) : Type 
   pub hung : HungAt u v k n a par order place
 
 -- all rows are done, or some row lies on two rings: whichever tree it is
-abbrev pub PassesEnd : (ℕ → ℕ) → (ℕ → ℕ) → ℕ → List ℕ → List ℕ → Option (List ℕ) → Type 0
-PassesEnd u v k par place None = (n a : ℕ) (order : List ℕ) → HungAt u v k n a par order place → ¬ OneRing u v k
-PassesEnd u v k par place (Some over) =
-    (n a : ℕ) (order : List ℕ) → HungAt u v k n a par order place → AllPassed u v n a par place k over
+abbrev pub PassesEnd : (ℕ → ℕ) → (ℕ → ℕ) → ℕ → List ℕ → List ℕ → List ℕ → Bool → Type 0
+PassesEnd u v k par place after fine =
+    (n a : ℕ) (order : List ℕ) → HungAt u v k n a par order place
+    → (fine ≡ true → AllPassed u v n a par place k after) × (fine ≡ false → ¬ OneRing u v k)

@@ -1,12 +1,13 @@
-use Rattle.arrays.proofs.Fills.{filled}
+use Rattle.arrays.proofs.Fills.{filled_by}
 use Rattle.mesh.proofs.Climbs.{passes_start, passes_skip, extra_not, round_of}
+use mathlib.Core.Bool.{true≢false, false≢true}
 use mathlib.Core.Path.{◌≡◌}
 use native.Mathlib.Omega.{arith}
 use Rattle.mesh.proofs.bands.passes.Goals.{else-extra-via-then-extra+else-not-round, else-extra-via-else-extra}
 use Rattle.mesh.proofs.bands.passes.Goals as goal
 
 pub loop-r-init : goal.loop-r-init
-loop-r-init c = (omega arith, λ n a order h. passes_start h.few (filled _ _))
+loop-r-init c = (omega arith, λ n a order h. passes_start h.few (filled_by (omega arith) c.fill.ensures.after))
 
 pub first_end-p-requires : goal.first_end-p-requires
 first_end-p-requires c = c.requires.0.stands _ c.loop-r-test.true
@@ -45,7 +46,7 @@ returns-then-not-round c =
     λ n a order h.
     let t = round_of h c.loop-r-test.true first-end-ensures second-end-ensures c.from.ensures
     c.from-in-loop-r.ensures (c.extra.ensures.0 c.if-extra.true) (c.loop-r.invariant.1 n a order h) in
-    (c.round.ensures _ _ _ n a order _ t).1 c.if-not-round.true
+    (λ e. absurd (false≢true e), λ _. (c.round.ensures _ _ _ n a order _ t).1 c.if-not-round.true)
 
 pub loop-r-preserved : goal.loop-r-preserved
 loop-r-preserved c =
@@ -72,4 +73,4 @@ loop-r-preserved c =
 pub returns : goal.returns
 returns c =
     let e : c.loop-r.r ≡ c.args.rows = omega arith in
-    λ n a order h. rw e at (c.loop-r.invariant.1 n a order h)
+    λ n a order h. (λ _. rw e at (c.loop-r.invariant.1 n a order h), λ t. absurd (true≢false t))

@@ -1,4 +1,4 @@
-use Rattle.arrays.proofs.Fills.{filled}
+use Rattle.arrays.proofs.Fills.{filled_by}
 use Rattle.mesh.proofs.Sizing.{sizing_start, name_fits, size_fits, sizing_next, sizing_end}
 use Prim.Native.Nat.{◌<◌}
 use native.Mathlib.Omega.{arith}
@@ -11,7 +11,7 @@ g_in c = name_fits c.loop-x.invariant c.loop-x-test.true _ c.named-g.ensures
 pub loop-x-init : goal.loop-x-init
 loop-x-init c =
     let pre = c.requires in
-    sizing_start pre.0 pre.1 pre.2 (filled _ _)
+    sizing_start pre.0 pre.1 pre.2 (filled_by (omega arith) c.fill.ensures.after)
 
 pub overflow_cast-bands : goal.overflow_cast-bands
 overflow_cast-bands c = omega (arith, g_in c)

@@ -3,4 +3,4 @@ use Rattle.mesh.proofs.Sizing.{Sizing}
 use Rattle.mesh.proofs.bands.sizes.Given as goal
 
 abbrev pub invariant-loop-x : goal.invariant-loop-x
-invariant-loop-x l = Sizing l.n l.fn.over l.x l.bands.over l.bands.size
+invariant-loop-x l = Sizing l.n l.initial.bands.over l.x l.bands.over l.bands.size

@@ -18,7 +18,7 @@ loop-r-init c =
     let pre = c.requires in
     record {
       rows = pre.0.rows;
-      grown = grown_start pre.0.few pre.1 c.start-tree.ensures;
+      grown = grown_start pre.0.few pre.1 c.start.ensures;
     }
 
 pub first_end-p-requires : goal.first_end-p-requires

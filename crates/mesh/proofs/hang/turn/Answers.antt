@@ -26,7 +26,7 @@ y_in c =
 pub loop-x-init : goal.loop-x-init
 loop-x-init c =
     let pre = c.requires in
-    λ u v k place0 h. climbing_start h (grown_start pre.0.hung.few pre.1 c.start-tree.ensures)
+    λ u v k place0 h. climbing_start h (grown_start pre.0.hung.few pre.1 c.start.ensures)
 
 pub offset_bounds-old-x : goal.offset_bounds-old-x
 offset_bounds-old-x c =

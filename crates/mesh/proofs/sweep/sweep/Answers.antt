@@ -1,4 +1,4 @@
-use Rattle.arrays.proofs.Fills.{filled}
+use Rattle.arrays.proofs.Fills.{filled_by}
 use Rattle.mesh.proofs.Sweeping.{
   sweeping_start,
   z_low,
@@ -29,7 +29,8 @@ p_in c =
 
 pub loop-j-init : goal.loop-j-init
 loop-j-init c =
-    sweeping_start c.requires.0 (filled _ _) (filled _ _) (filled _ _)
+    sweeping_start c.requires.0 (filled_by (omega arith) c.fill.ensures.after)
+    (filled_by (omega arith) c.fill-2.ensures.after) (filled_by (omega arith) c.fill-3.ensures.after)
 
 pub advance-t-requires : goal.advance-t-requires
 advance-t-requires c =
