@@ -54,8 +54,8 @@ fn claim_path(
     let x = usize::from(a);
     let y = usize::from(b);
     let t = tree::meet(&walk.parent, &walk.place, usize::from(net.nodes), x, y);
-    let ups = measure_climb(s, marks, walk, x, t);
-    let downs = measure_climb(s, marks, walk, y, t);
+    let ups = measure_climb(s, marks, &walk.parent, &walk.half, &walk.place, x, t);
+    let downs = measure_climb(s, marks, &walk.parent, &walk.half, &walk.place, y, t);
     if u64::from(net.bound) < ups.length + downs.length {
         return Err(Refusal::TOO_LONG);
     }

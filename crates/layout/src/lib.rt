@@ -41,6 +41,7 @@ fn number(
     ensures sizes_all { SizesAll n walk.old.parent size.new }
     ensures seating { Seating n walk.old.parent walk.old.place walk.new.half size.new n spot.new next.new }
     ensures parent { walk.new.parent ≡ walk.old.parent }
+    ensures place { walk.new.place ≡ walk.old.place }
 {
     heads_of(&walk.parent, &walk.order, n, next, &mut walk.half);
     sizes_of(&walk.parent, &walk.order, n, size);
@@ -128,8 +129,8 @@ pub fn heaviest_pair(
 }
 
 // Between crates: each node's spot, in spot, and by spot what tells the path between any two nodes: the spot of the
-// parent, left in order, and the distance and the lifted weight from node 0, left in bl and bw. What those held, and
-// half, is lost.
+// parent, left in order, and the distance and the lifted weight from node 0, left in bl and bw. What those held is lost;
+// of the walk all else stays: half, where the heads stand for a while, is put back.
 pub fn spots_of(
     walk: &mut Walk,
     bl: &mut [u64; 4096],
@@ -138,9 +139,13 @@ pub fn spots_of(
     spot: &mut [u16; 4096],
 )
     requires { Ground n walk.old.parent walk.old.order walk.old.place bl.old bw.old }
-    ensures { (g : Ground n walk.old.parent walk.old.order walk.old.place bl.old bw.old)
+    ensures spotted { (g : Ground n walk.old.parent walk.old.order walk.old.place bl.old bw.old)
         → Spotted (Value g.u g.v g.k g.long g.heavy) n spot.new walk.new.order bl.new bw.new }
+    ensures parent { walk.new.parent ≡ walk.old.parent }
+    ensures half { walk.new.half ≡ walk.old.half }
+    ensures place { walk.new.place ≡ walk.old.place }
 {
+    let half = walk.half;
     let mut size: [u16; 4096] = [0; 4096];
     let mut next: [u16; 4096] = [0; 4096];
     let mut d: [u64; 4096] = [0; 4096];
@@ -159,4 +164,5 @@ pub fn spots_of(
     lay_spots(spot, &walk.parent, n, &mut walk.order);
     lay_long(spot, &d, n, bl);
     lay_long(spot, &w, n, bw);
+    walk.half = half;
 }

@@ -8,8 +8,6 @@ ghost use Rattle.marks.specs.Mark.{top, run_of, spend};
 ghost use Rattle.marks.specs.work.Lifted.{LiftedUnder};
 ghost use Rattle.marks.specs.work.Measured.{one_free, Measured};
 
-use reach::Walk;
-
 pub const FREE: u16 = 0;
 
 // The run that stands for "unknown"; every run's own number is below it.
@@ -63,11 +61,20 @@ pub struct Climb {
     pub free: u16,
 }
 
-// Between crates: the climb from x to t, which is above x.
-pub fn measure_climb(s: &[u8], marks: &[u16], walk: &Walk, x: usize, t: usize) -> Climb
-    requires { (k : WalkClimb (length marks.now) walk.now.parent walk.now.half walk.now.place x t)
+// Between crates: the climb from x to t, which is above x. The three arrays that it reads, and no Walk: a walk has one
+// more, which not every caller needs to have.
+pub fn measure_climb(
+    s: &[u8],
+    marks: &[u16],
+    parent: &[u16; 4096],
+    half: &[u16; 4096],
+    place: &[u16; 4096],
+    x: usize,
+    t: usize,
+) -> Climb
+    requires { (k : WalkClimb (length marks.now) parent.now half.now place.now x t)
         × Net s.now k.nodes }
-    ensures { Measured s.now marks.now walk.now.parent walk.now.half x t
+    ensures { Measured s.now marks.now parent.now half.now x t
         result.length result.weight result.free }
 {
     let mut v = x;
@@ -75,11 +82,11 @@ pub fn measure_climb(s: &[u8], marks: &[u16], walk: &Walk, x: usize, t: usize) -
     let mut weight: u64 = table::SUM_LIFT;
     let mut free: u16 = 0;
     while v != t {
-        let r = usize::from(walk.half[v]) / 2;
+        let r = usize::from(half[v]) / 2;
         length += u64::from(table::row_at(s, r).length);
         weight = weight + u64::from(lifted_under(s, marks, r)) - ROW_LIFT;
         free += one_free(marks[r]);
-        v = usize::from(walk.parent[v]);
+        v = usize::from(parent[v]);
     }
     Climb {
         length,

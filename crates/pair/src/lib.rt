@@ -87,8 +87,8 @@ fn way_between(s: &[u8], marks: &[u16], walk: &Walk, n: usize, x: usize, y: usiz
     ensures { WayOf s.now marks.now n x y result.length result.weight }
 {
     let t = tree::meet(&walk.parent, &walk.place, n, x, y);
-    let ups = measure_climb(s, marks, walk, x, t);
-    let downs = measure_climb(s, marks, walk, y, t);
+    let ups = measure_climb(s, marks, &walk.parent, &walk.half, &walk.place, x, t);
+    let downs = measure_climb(s, marks, &walk.parent, &walk.half, &walk.place, y, t);
     let length = ups.length + downs.length;
     let weight = ups.weight + downs.weight - table::SUM_LIFT;
     Way { length, weight }

@@ -19,8 +19,8 @@ lay_long-requires-2 c =
     let pre = c.requires in
     (layable pre.grown c.number.ensures.heads_all c.number.ensures.sizes_all c.number.ensures.seating).spots
 
-pub returns : goal.returns
-returns c =
+pub returns-clause-spotted : goal.returns-clause-spotted
+returns-clause-spotted c =
     let lay-long-ensures = c.lay_long.ensures in
     let lay-spots-ensures = rw c.number.ensures.parent at c.lay_spots.ensures in
     let paths-from-ensures = c.paths_from.ensures in

@@ -13,11 +13,11 @@ node_in c = along_fits c.loop-v.invariant.along c.loop-v-test.true
 pub loop-v-init : goal.loop-v-init
 loop-v-init c = measuring_start c.args.s.now c.requires.0
 
-pub offset_bounds-walk-v : goal.offset_bounds-walk-v
-offset_bounds-walk-v c = omega (arith, node_in c)
+pub offset_bounds-half-v : goal.offset_bounds-half-v
+offset_bounds-half-v c = omega (arith, node_in c)
 
-pub bounds-walk-v : goal.bounds-walk-v
-bounds-walk-v c = omega (arith, node_in (goal.at.bounds-walk-v c).In-loop-v)
+pub bounds-half-v : goal.bounds-half-v
+bounds-half-v c = omega (arith, node_in (goal.at.bounds-half-v c).In-loop-v)
 
 pub overflow_add-length : goal.overflow_add-length
 overflow_add-length c =
@@ -61,18 +61,18 @@ overflow_add-free c =
       one_most (at args.marks.now (wide-result / 2)),
     )
 
-pub offset_bounds-walk-v-in-loop-v : goal.offset_bounds-walk-v-in-loop-v
-offset_bounds-walk-v-in-loop-v c = omega (arith, node_in (goal.at.offset_bounds-walk-v-in-loop-v c).In-loop-v)
+pub offset_bounds-parent-v : goal.offset_bounds-parent-v
+offset_bounds-parent-v c = omega (arith, node_in (goal.at.offset_bounds-parent-v c).In-loop-v)
 
-pub bounds-walk-v-in-loop-v : goal.bounds-walk-v-in-loop-v
-bounds-walk-v-in-loop-v c = omega (arith, node_in (goal.at.bounds-walk-v-in-loop-v c).In-loop-v)
+pub bounds-parent-v : goal.bounds-parent-v
+bounds-parent-v c = omega (arith, node_in (goal.at.bounds-parent-v c).In-loop-v)
 
 pub loop-v-smaller : goal.loop-v-smaller
 loop-v-smaller c =
     let loop-test-taken = c.loop-v-test.true in
     let loop-inv = c.loop-v.invariant in
     let args = c.args in
-    omega (arith, along_less loop-inv.along loop-test-taken, ap (at args.walk.now.place) c.from-v.ensures)
+    omega (arith, along_less loop-inv.along loop-test-taken, ap (at args.place.now) c.from-v.ensures)
 
 pub loop-v-preserved : goal.loop-v-preserved
 loop-v-preserved c =

@@ -7,7 +7,7 @@ use Rattle.marks.proofs.measure_climb.Given as goal
 
 abbrev pub invariant-loop-v : goal.invariant-loop-v
 invariant-loop-v l =
-    Measuring l.s l.marks l.walk.parent l.walk.half l.walk.place l.x l.t l.v l.length l.weight l.free
+    Measuring l.s l.marks l.parent l.half l.place l.x l.t l.v l.length l.weight l.free
 
 abbrev pub decreases-loop-v : goal.decreases-loop-v
-decreases-loop-v l = at l.walk.place l.v
+decreases-loop-v l = at l.place l.v
