@@ -1,3 +1,2 @@
 -- Working statements: what functions promise each other, and no part of an operation's promise.
-pub mod Fine
 pub mod Room

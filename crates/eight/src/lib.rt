@@ -61,12 +61,10 @@ pub fn show_accept(o: AcceptAnswer, answer: &mut [i64; 8]) -> u8
 {
     match o {
         Ok(o) => fine(
-            [
-                i64::from(o.nodes),
-                i64::from(o.bound),
-                i64::from(o.filler),
-                0,
-            ],
+            i64::from(o.nodes),
+            i64::from(o.bound),
+            i64::from(o.filler),
+            0,
             answer,
         ),
         Err(why) => refuse(why, answer),
@@ -79,10 +77,7 @@ pub fn show_pair(o: PairAnswer, answer: &mut [i64; 8]) -> u8
     ensures { call result answer.new [] ≡ pair_in_c o }
 {
     match o {
-        Ok(o) => fine(
-            [i64::from(o.length), o.weight, i64::from(o.hops), 0],
-            answer,
-        ),
+        Ok(o) => fine(i64::from(o.length), o.weight, i64::from(o.hops), 0, answer),
         Err(why) => refuse(why, answer),
     }
 }
@@ -94,12 +89,10 @@ pub fn show_heaviest(o: HeaviestAnswer, answer: &mut [i64; 8]) -> u8
 {
     match o {
         Ok(o) => fine(
-            [
-                i64::from(o.low),
-                i64::from(o.high),
-                i64::from(o.length),
-                o.weight,
-            ],
+            i64::from(o.low),
+            i64::from(o.high),
+            i64::from(o.length),
+            o.weight,
             answer,
         ),
         Err(why) => refuse(why, answer),
@@ -113,12 +106,10 @@ pub fn show_window(o: WindowAnswer, answer: &mut [i64; 8]) -> u8
 {
     match o {
         Ok(o) => fine(
-            [
-                i64::from(o.low),
-                i64::from(o.high),
-                i64::from(o.count),
-                o.weight,
-            ],
+            i64::from(o.low),
+            i64::from(o.high),
+            i64::from(o.count),
+            o.weight,
             answer,
         ),
         Err(why) => refuse(why, answer),
@@ -131,7 +122,7 @@ pub fn show_heads(o: HeadsAnswer, answer: &mut [i64; 8]) -> u8
     ensures { (list : List ℕ) → call result answer.new list ≡ heads_in_c (o, list) }
 {
     match o {
-        Ok(()) => fine([0; 4], answer),
+        Ok(()) => fine(0, 0, 0, 0, answer),
         Err(why) => refuse(why, answer),
     }
 }
@@ -142,7 +133,7 @@ pub fn show_page(o: Listed, answer: &mut [i64; 8]) -> u8
     ensures { (rows : List ℕ) → call result answer.new rows ≡ listing_in_c (o, rows) }
 {
     match o {
-        Ok(o) => fine([o.written as i64, o.left as i64, 0, 0], answer),
+        Ok(o) => fine(o.written as i64, o.left as i64, 0, 0, answer),
         Err(why) => refuse(why, answer),
     }
 }
@@ -153,9 +144,9 @@ pub fn show_vet(o: Vetted, answer: &mut [i64; 8]) -> u8
     ensures { call result answer.new [] ≡ vet_in_c o }
 {
     match o {
-        Ok(Verdict::Yes) => fine([1, 0, 0, 0], answer),
-        Ok(Verdict::Fault { row }) => fine([2, row as i64, 0, 0], answer),
-        Ok(Verdict::Missing { low, high }) => fine([3, 0, i64::from(low), i64::from(high)], answer),
+        Ok(Verdict::Yes) => fine(1, 0, 0, 0, answer),
+        Ok(Verdict::Fault { row }) => fine(2, row as i64, 0, 0, answer),
+        Ok(Verdict::Missing { low, high }) => fine(3, 0, i64::from(low), i64::from(high), answer),
         Err(why) => refuse(why, answer),
     }
 }
@@ -166,7 +157,7 @@ pub fn show_change(o: Change, answer: &mut [i64; 8]) -> u8
     ensures { (marks : List ℕ) → call result answer.new marks ≡ change_in_c (o, marks) }
 {
     match o {
-        Ok(count) => fine([i64::from(count), 0, 0, 0], answer),
+        Ok(count) => fine(i64::from(count), 0, 0, 0, answer),
         Err(why) => refuse(why, answer),
     }
 }
@@ -177,7 +168,7 @@ pub fn show_conversion(o: Conversion, answer: &mut [i64; 8]) -> u8
     ensures { call result answer.new [] ≡ conversion_in_c o }
 {
     match o {
-        Ok(()) => fine([0; 4], answer),
+        Ok(()) => fine(0, 0, 0, 0, answer),
         Err(why) => refuse(why, answer),
     }
 }
@@ -188,7 +179,7 @@ pub fn show_read(o: ReadAnswer, answer: &mut [i64; 8]) -> u8
     ensures { (table : List ℕ) → call result answer.new table ≡ read_in_c (o, table) }
 {
     match o {
-        Ok(size) => fine([size as i64, 0, 0, 0], answer),
+        Ok(size) => fine(size as i64, 0, 0, 0, answer),
         Err(why) => refuse(why, answer),
     }
 }
@@ -200,7 +191,7 @@ pub fn show_write(o: WriteAnswer, answer: &mut [i64; 8]) -> u8
         → (call result answer.new lengths, weights) ≡ write_in_c (o, lengths, weights) }
 {
     match o {
-        Ok(o) => fine([o.lengths as i64, o.weights as i64, 0, 0], answer),
+        Ok(o) => fine(o.lengths as i64, o.weights as i64, 0, 0, answer),
         Err(why) => refuse(why, answer),
     }
 }
@@ -211,7 +202,7 @@ pub fn show_row(o: RowAnswer, answer: &mut [i64; 8]) -> u8
     ensures { (row : List ℕ) → call result answer.new row ≡ row_in_c (o, row) }
 {
     match o {
-        Ok(()) => fine([0; 4], answer),
+        Ok(()) => fine(0, 0, 0, 0, answer),
         Err(why) => refuse(Refusal::from(why), answer),
     }
 }
@@ -223,12 +214,10 @@ pub fn show_mesh(o: MeshAnswer, answer: &mut [i64; 8]) -> u8
 {
     match o {
         Ok(o) => fine(
-            [
-                i64::from(o.branches),
-                i64::from(o.low),
-                i64::from(o.high),
-                0,
-            ],
+            i64::from(o.branches),
+            i64::from(o.low),
+            i64::from(o.high),
+            0,
             answer,
         ),
         Err(why) => refuse(why, answer),
