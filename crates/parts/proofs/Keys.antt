@@ -9,7 +9,7 @@ use Rattle.spans.specs.work.Spans.{InSpan, SpanCopied}
 use Rattle.spans.specs.work.Pairs.{Small}
 use Rattle.spans.proofs.Copying.{kept_none}
 use Rattle.parts.specs.work.Lift.{key_lift, Low, World}
-use Rattle.parts.specs.work.Listed.{Sizes, Framed, Listed, RaisedKeys, Lone}
+use Rattle.parts.specs.work.Listed.{Sizes, Framed, SpanListed, RaisedKeys, Lone}
 
 pub raised_small : (f : List ℕ) (p s e : ℕ) (l m : List ℕ) → Low f → e ≤ 4096 → RaisedKeys f p s e l m → Small l
     → Small m
@@ -20,7 +20,7 @@ raised_small f p s e l m o b h g = record { small = λ x n. small x n (dec_lt x 
     small x n (no a) (yes c) = omega (arith, h.done x (omega arith) c, o.low x n)
     small x n (no a) (no c) = rw (h.kept.after x (omega arith)) (g.small x n)
 
-pub listed_one : (key l : List ℕ) (s : ℕ) → at l s ≡ s → Listed key l s (s + 1)
+pub listed_one : (key l : List ℕ) (s : ℕ) → at l s ≡ s → SpanListed key l s (s + 1)
 listed_one key l s q =
     record {
       sorted = record {
@@ -35,8 +35,8 @@ listed_one key l s q =
     }
 
 -- the same spots by a key that differs by the same number at each
-pub listed_again : (d ku x y : List ℕ) (s e : ℕ) (c : ℕ) → Listed d x s e → ((k : ℕ) → s ≤ k → k < e → at y k ≡ at x k)
-    → ((z : ℕ) → s ≤ z → z < e → at ku z + c ≡ key_lift + at d z) → Listed ku y s e
+pub listed_again : (d ku x y : List ℕ) (s e : ℕ) (c : ℕ) → SpanListed d x s e → ((k : ℕ) → s ≤ k → k < e → at y k ≡ at x k)
+    → ((z : ℕ) → s ≤ z → z < e → at ku z + c ≡ key_lift + at d z) → SpanListed ku y s e
 listed_again d ku x y s e c h q f =
     record {
       sorted = record {
@@ -58,7 +58,7 @@ listed_again d ku x y s e c h q f =
     }
 
 pub lone_hang : (d w : List ℕ) (t p s e : ℕ) (x y ku wu y' ku' wu' : List ℕ) → World d w → Sizes x y ku wu → e ≤ 4096
-    → Listed d x s e → SpanCopied x s e y y' → p ≡ t → RaisedKeys d p s e ku ku' → RaisedKeys w p s e wu wu'
+    → SpanListed d x s e → SpanCopied x s e y y' → p ≡ t → RaisedKeys d p s e ku ku' → RaisedKeys w p s e wu wu'
     → Lone d w t s e x y' ku' wu' × Framed s e x y ku wu x y' ku' wu'
 lone_hang d w t p s e x y ku wu y' ku' wu' o z b l c q i j = (
   record {

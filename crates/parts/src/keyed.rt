@@ -4,7 +4,7 @@
 ghost use Rattle.std.specs.Prelude.{◌≡◌, ◌+◌, ◌≤◌, ◌<◌, length};
 ghost use Rattle.arrays.specs.At.{at};
 ghost use Rattle.parts.specs.work.Lift.{Low, World};
-ghost use Rattle.parts.specs.work.Listed.{Sizes, Framed, Listed, Alone, RaisedKeys, Lone};
+ghost use Rattle.parts.specs.work.Listed.{Sizes, Framed, SpanListed, Alone, RaisedKeys, Lone};
 
 use crate::{KEY_LIFT, Lists, Spots};
 use spans::copy;
@@ -50,7 +50,7 @@ impl<'a> Lists<'a> {
     pub(crate) fn hang(&mut self, spots: &Spots<'_>, s: usize, e: usize)
         requires world { World spots.now.d.now spots.now.w.now }
         requires sizes { Sizes self.old.x.now self.old.y.now self.old.ku.now self.old.wu.now }
-        requires listed { Listed spots.now.d.now self.old.x.now s e }
+        requires listed { SpanListed spots.now.d.now self.old.x.now s e }
         requires s_lt_e { (s < e) × (e ≤ 4096) × (at spots.now.parent.now s < 4096) }
         ensures lone { Lone spots.now.d.now spots.now.w.now (at spots.now.parent.now s) s e self.new.x.now
             self.new.y.now self.new.ku.now self.new.wu.now }

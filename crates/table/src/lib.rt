@@ -8,7 +8,7 @@ ghost use Rattle.table.specs.Bytes.{u16_at, u32_at};
 ghost use Rattle.table.specs.Opens.{Opening, opening_refusal, Opens, Examines};
 ghost use Rattle.table.specs.Row.{Stands, PartOf, NextOf, RowOf, weight_at};
 ghost use Rattle.table.specs.Signed.{InRange};
-ghost use Rattle.table.specs.work.RowAnswer.{RowAnswer};
+ghost use Rattle.table.specs.work.RowTold.{RowTold};
 ghost use Rattle.table.specs.work.Standing.{Standing};
 ghost use Rattle.table.specs.Examine.{RowsTested};
 ghost use Rattle.table.specs.work.Lift.{LiftedOf, LoweredOf};
@@ -194,7 +194,7 @@ pub fn lowered(x: u64) -> i64
 // The first of 7 to 10, 22 and 23 that a row meets, if any.
 fn row_number(s: &[u8], r: usize, nodes: u16) -> Option<u8>
     requires { Stands s.now r }
-    ensures { RowAnswer nodes s.now r result }
+    ensures { RowTold nodes s.now r result }
 {
     let a = u16_at(s, 12 + 12 * r);
     let b = u16_at(s, 14 + 12 * r);

@@ -25,7 +25,7 @@ pub record Framed (s e : ℕ) (x y ku wu x' y' ku' wu' : List ℕ) : Type 0 wher
   pub of_wu : Kept s e wu wu'
 
 -- the span from s to e of l holds exactly the spots from s to e, sorted by a key
-pub record Listed (key l : List ℕ) (s e : ℕ) : Type 0 where
+pub record SpanListed (key l : List ℕ) (s e : ℕ) : Type 0 where
   pub sorted : Sorted (By key) l s e
   pub low : (k : ℕ) → s ≤ k → k < e → s ≤ at l k
   pub high : (k : ℕ) → s ≤ k → k < e → at l k < e
@@ -43,8 +43,8 @@ pub record RaisedKeys (from : List ℕ) (p s e : ℕ) (l m : List ℕ) : Type 0 
 
 -- the spots from s to e, listed, all hanging at t
 pub record Lone (d w : List ℕ) (t s e : ℕ) (x y ku wu : List ℕ) : Type 0 where
-  pub down : Listed d x s e
-  pub up : Listed ku y s e
+  pub down : SpanListed d x s e
+  pub up : SpanListed ku y s e
   pub keys : (z : ℕ) → s ≤ z → z < e → at ku z + 2 * at d t ≡ key_lift + at d z
   pub weights : (z : ℕ) → s ≤ z → z < e → at wu z + 2 * at w t ≡ key_lift + at w z
   pub small_ku : Small ku
@@ -56,16 +56,16 @@ pub record Halves (ku wu d w x y : List ℕ) (s m e : ℕ) : Type 0 where
   pub left : s ≤ m
   pub right : m ≤ e
   pub within : e ≤ 4096
-  pub x_left : Listed d x s m
-  pub x_right : Listed d x m e
-  pub y_left : Listed ku y s m
-  pub y_right : Listed ku y m e
+  pub x_left : SpanListed d x s m
+  pub x_right : SpanListed d x m e
+  pub y_left : SpanListed ku y s m
+  pub y_right : SpanListed ku y m e
 
 -- the two in one, with the best pair across
 pub record Folded (name ku wu d w : List ℕ) (s m e : ℕ) (Within : ℕ → Type 0) (x y x' y' : List ℕ) (old new : Best) :
     Type 0 where
-  pub down : Listed d x' s e
-  pub up : Listed ku y' s e
+  pub down : SpanListed d x' s e
+  pub up : SpanListed ku y' s e
   pub down_kept : Kept s e x x'
   pub up_kept : Kept s e y y'
   pub joined : JoinedBest name ku wu d w y x s m e Within old new
@@ -81,8 +81,8 @@ module _ (stop head parent : List ℕ) where
 
     -- a part is listed by both keys, and each of its spots has its keys
     pub record PartReady (h s e : ℕ) (x y ku wu : List ℕ) : Type 0 where
-      pub down : Listed d x s e
-      pub up : Listed ku y s e
+      pub down : SpanListed d x s e
+      pub up : SpanListed ku y s e
       pub keyed : (p : ℕ) → s ≤ p → p < e → Key h s e p (at ku p) (at wu p)
       pub small_ku : Small ku
       pub small_wu : Small wu

@@ -46,11 +46,11 @@ pub record Going (s rows : List ℕ) (p : Pairs) (at : ℕ) : Type 0 where
   pub paging : Paging s (all_free p.nodes) p.floor p.total rows p.page.written p.page.left p.row at
 
 -- what follows: what is left of a page and of the listing, and the last line; or nothing
-abbrev pub Follows : List ℕ → List ℕ → Option Pairs → ℕ → Type 0
-Follows s rows (Some p) at = Going s rows p at
-Follows s rows None at = Rest s at []
+abbrev pub WhatFollows : List ℕ → List ℕ → Option Pairs → ℕ → Type 0
+WhatFollows s rows (Some p) at = Going s rows p at
+WhatFollows s rows None at = Rest s at []
 
 -- a piece, and what follows it
 pub record Shown (s rows out : List ℕ) (p : Piece) : Type 0 where
   pub comes : Comes s out p.n p.place
-  pub goes : Follows s rows p.pairs (p.place + p.n)
+  pub goes : WhatFollows s rows p.pairs (p.place + p.n)

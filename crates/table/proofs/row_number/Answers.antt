@@ -6,7 +6,7 @@ use mir.Val.{to_z, of_z}
 use mir.ValLaws.{to_z-of_z}
 use Rattle.std.specs.Prelude.{None, Some}
 use Rattle.table.specs.Examine.{RowNumber}
-use Rattle.table.specs.work.RowAnswer.{RowAnswer}
+use Rattle.table.specs.work.RowTold.{RowTold}
 use Rattle.table.specs.Refuse.{Unless, refused, passed}
 use Rattle.table.specs.Header.{version_of}
 use Rattle.table.specs.Row.{row_at, weight_at}
@@ -21,10 +21,10 @@ use Rattle.table.proofs.row_number.Goals as goal
 
 -- an answer that names a number, or none
 module _ {n : ℕ} {s : List ℕ} {r : ℕ} where
-  numbered : {k : ℕ} → 0 < k → RowNumber n s r k → RowAnswer n s r (Some k)
+  numbered : {k : ℕ} → 0 < k → RowNumber n s r k → RowTold n s r (Some k)
   numbered h p = record { number = p; met = λ e. absurd (omega (arith, e)) }
 
-  unnumbered : RowNumber n s r 0 → RowAnswer n s r None
+  unnumbered : RowNumber n s r 0 → RowTold n s r None
   unnumbered p = record { number = p; met = λ _. refl }
 
 -- 7, 8 and 9 pass
