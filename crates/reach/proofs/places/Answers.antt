@@ -8,8 +8,7 @@ use Rattle.reach.proofs.places.Goals as goal
 
 node_in : (c : After-from-x) → c.from-x.result < 4096
 node_in c =
-    let loop-inv = c.loop-i.invariant in
-    rw c.from-x.ensures (loop-inv.1.within _ c.loop-i-test.true)
+    omega (arith, c.from-x.ensures, c.loop-i.invariant.1.within _ c.loop-i-test.true)
 
 pub loop-i-init : goal.loop-i-init
 loop-i-init c = (places_none (filled_by c.told-place c.fill.ensures.after), c.requires, omega arith)
