@@ -8,10 +8,11 @@ use streams::{buffer, read_full};
 // The input has room for the largest table and one byte more, enough to refuse a longer one; a page has 262,144 rows:
 // half of the 8 MB of stack that Linux gives a program.
 fn main(rt: HostRuntime) -> io::Result<()> {
+    // All three before the first `?`: what is made after one is cleared twice.
     let mut input = buffer::<49153>();
-    let n = read_full(&mut rt.stdin(), &mut input)?;
     let mut rows = buffer::<4194304>();
     let mut out = buffer::<65536>();
+    let n = read_full(&mut rt.stdin(), &mut input)?;
     printing::print(&mut rt.stdout(), &input[..n], &mut rows, &mut out)?;
     Ok(())
 }
