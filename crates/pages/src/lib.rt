@@ -6,6 +6,7 @@ ghost use Rattle.std.specs.Prelude.{◌≡◌, ◌+◌, ◌*◌, ◌≤◌, ◌<
 ghost use Rattle.std.proofs.lemmas.List.Edits.{sets};
 ghost use Rattle.std.specs.Int.{w64};
 ghost use Rattle.std.proofs.Common.{of_z};
+ghost use Rattle.arrays.specs.At.{at};
 ghost use Rattle.limits.specs.work.Fits.{Fits, Decides};
 ghost use Rattle.pages.specs.Listing.{entry};
 ghost use Rattle.pages.specs.Bytes.{row};
@@ -94,11 +95,28 @@ fn add(out: &mut [u8], room: usize, p: &Pair, c: Count) -> Count
     }
 }
 
+// Whether a lifted weight is one that passes.
+fn weighs(x: u64, sums: Sums) -> bool
+    ensures { Decides (InSums sums x) result }
+{
+    sums.floor <= x && x < sums.end
+}
+
 // Between crates: whether a key fits the limit and a lifted weight is one that passes.
 pub fn passes(y: u64, x: u64, limit: Limit, sums: Sums) -> bool
     ensures { Decides (Fits limit y × InSums sums x) result }
 {
-    sums.floor <= x && x < sums.end && fits(limit, y)
+    weighs(x, sums) && fits(limit, y)
+}
+
+impl Paths<'_> {
+    // The same of the path to v. By its weight first: few pairs of a page's floor pass, and of the others no key is read.
+    fn passes(&self, v: usize, limit: Limit, sums: Sums) -> bool
+        requires { v < 4096 }
+        ensures { Decides (Fits limit (at self.now.key.now v) × InSums sums (at self.now.wt.now v)) result }
+    {
+        weighs(self.wt[v], sums) && fits(limit, self.key[v])
+    }
 }
 
 // One more than x, and n where that is above n.
@@ -132,10 +150,10 @@ pub fn seconds(
     ensures { Seconds (Fits limit) paths.now.key.now paths.now.len.now paths.now.wt.now u from sums n
         out.old c.given c.left out.new result.given result.left }
 {
-    let Paths { key, len, wt } = *paths;
+    let Paths { len, wt, .. } = *paths;
     let mut k = c;
     for v in from..n {
-        if passes(key[v], wt[v], limit, sums) {
+        if paths.passes(v, limit, sums) {
             let pair = Pair {
                 low: u,
                 high: v,
