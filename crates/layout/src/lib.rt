@@ -27,25 +27,26 @@ use spines::{heads_of, sizes_of};
 mod laid;
 mod seats;
 
-// The head, left in half, the size and the spot of each node. The main children stand where the next free spots then
-// do.
+// The head, the size and the spot of each node. The main children stand where the next free spots then do. The arrays,
+// and not the walk: heads go into one of the walk's for `heaviest_pair`, and into one of its own for `spots_of`.
 fn number(
-    walk: &mut Walk,
+    parent: &[u16; 4096],
+    order: &[u16; 4096],
+    place: &[u16; 4096],
     n: usize,
+    head: &mut [u16; 4096],
     size: &mut [u16; 4096],
     spot: &mut [u16; 4096],
     next: &mut [u16; 4096],
 )
-    requires { Grown n walk.old.parent walk.old.order walk.old.place }
-    ensures heads_all { HeadsAll n walk.old.parent walk.new.half }
-    ensures sizes_all { SizesAll n walk.old.parent size.new }
-    ensures seating { Seating n walk.old.parent walk.old.place walk.new.half size.new n spot.new next.new }
-    ensures parent { walk.new.parent ≡ walk.old.parent }
-    ensures place { walk.new.place ≡ walk.old.place }
+    requires { Grown n parent.now order.now place.now }
+    ensures heads_all { HeadsAll n parent.now head.new }
+    ensures sizes_all { SizesAll n parent.now size.new }
+    ensures seating { Seating n parent.now place.now head.new size.new n spot.new next.new }
 {
-    heads_of(&walk.parent, &walk.order, n, next, &mut walk.half);
-    sizes_of(&walk.parent, &walk.order, n, size);
-    seats(walk, size, n, spot, next);
+    heads_of(parent, order, n, next, head);
+    sizes_of(parent, order, n, size);
+    seats(parent, order, place, head, size, n, spot, next);
 }
 
 // All that `whole` reads, by spot, each in an array that is not read by node any more: where spans end in order, the
@@ -104,7 +105,16 @@ pub fn heaviest_pair(
         bw,
     };
     swept.paths_from(0, &mut next, &mut d, &mut w);
-    number(walk, n, &mut size, &mut spot, &mut next);
+    number(
+        &walk.parent,
+        &walk.order,
+        &walk.place,
+        n,
+        &mut walk.half,
+        &mut size,
+        &mut spot,
+        &mut next,
+    );
     lay_out(walk, &mut size, &spot, &d, &w, n, bl, bw);
     let spots = Spots {
         stop: &walk.order,
@@ -129,23 +139,22 @@ pub fn heaviest_pair(
 }
 
 // Between crates: each node's spot, in spot, and by spot what tells the path between any two nodes: the spot of the
-// parent, left in order, and the distance and the lifted weight from node 0, left in bl and bw. What those held is lost;
-// of the walk all else stays: half, where the heads stand for a while, is put back.
+// parent, left in order, and the distance and the lifted weight from node 0, left in bl and bw. What those held is lost.
+// Parents and places are read alone, and no half-branch is asked for: so the arrays, and not the walk.
 pub fn spots_of(
-    walk: &mut Walk,
+    parent: &[u16; 4096],
+    order: &mut [u16; 4096],
+    place: &[u16; 4096],
     bl: &mut [u64; 4096],
     bw: &mut [u64; 4096],
     n: usize,
     spot: &mut [u16; 4096],
 )
-    requires { Ground n walk.old.parent walk.old.order walk.old.place bl.old bw.old }
-    ensures spotted { (g : Ground n walk.old.parent walk.old.order walk.old.place bl.old bw.old)
-        → Spotted (Value g.u g.v g.k g.long g.heavy) n spot.new walk.new.order bl.new bw.new }
-    ensures parent { walk.new.parent ≡ walk.old.parent }
-    ensures half { walk.new.half ≡ walk.old.half }
-    ensures place { walk.new.place ≡ walk.old.place }
+    requires { Ground n parent.now order.old place.now bl.old bw.old }
+    ensures { (g : Ground n parent.now order.old place.now bl.old bw.old)
+        → Spotted (Value g.u g.v g.k g.long g.heavy) n spot.new order.new bl.new bw.new }
 {
-    let half = walk.half;
+    let mut head: [u16; 4096] = [0; 4096];
     let mut size: [u16; 4096] = [0; 4096];
     let mut next: [u16; 4096] = [0; 4096];
     let mut d: [u64; 4096] = [0; 4096];
@@ -153,16 +162,17 @@ pub fn spots_of(
     // next has the flags of the paths, then main children, then next free spots.
     let swept = Swept {
         n,
-        parent: &walk.parent,
-        order: &walk.order,
-        place: &walk.place,
+        parent,
+        order,
+        place,
         bl,
         bw,
     };
     swept.paths_from(0, &mut next, &mut d, &mut w);
-    number(walk, n, &mut size, spot, &mut next);
-    lay_spots(spot, &walk.parent, n, &mut walk.order);
+    number(
+        parent, order, place, n, &mut head, &mut size, spot, &mut next,
+    );
+    lay_spots(spot, parent, n, order);
     lay_long(spot, &d, n, bl);
     lay_long(spot, &w, n, bw);
-    walk.half = half;
 }

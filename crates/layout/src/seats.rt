@@ -6,8 +6,6 @@ ghost use Rattle.reach.specs.work.Grown.{Grown};
 ghost use Rattle.spines.specs.work.Parents.{SizesAll};
 ghost use Rattle.layout.specs.work.Seats.{SeatRoom, Seated, Seating};
 
-use reach::Walk;
-
 // A node's spot, and its parent's next free spot.
 #[derive(Drop)]
 struct Seat {
@@ -41,24 +39,27 @@ fn seat_of(
     }
 }
 
-// The spot of each node, whose head is in half.
+// The spot of each node.
 pub(crate) fn seats(
-    walk: &Walk,
+    parent: &[u16; 4096],
+    order: &[u16; 4096],
+    place: &[u16; 4096],
+    head: &[u16; 4096],
     size: &[u16; 4096],
     n: usize,
     spot: &mut [u16; 4096],
     next: &mut [u16; 4096],
 )
-    requires grown { Grown n walk.now.parent walk.now.order walk.now.place }
-    requires sizes_all { SizesAll n walk.now.parent size.now }
-    ensures { Seating n walk.now.parent walk.now.place walk.now.half size.now n spot.new next.new }
+    requires grown { Grown n parent.now order.now place.now }
+    requires sizes_all { SizesAll n parent.now size.now }
+    ensures { Seating n parent.now place.now head.now size.now n spot.new next.new }
 {
     spot.fill(0);
     next.fill(1);
     for i in 1..n {
-        let v = usize::from(walk.order[i]);
-        let p = usize::from(walk.parent[v]);
-        let t = seat_of(&walk.half, size, spot, next, p, v);
+        let v = usize::from(order[i]);
+        let p = usize::from(parent[v]);
+        let t = seat_of(head, size, spot, next, p, v);
         spot[v] = t.spot;
         next[p] = t.next;
         next[v] = t.spot + 1;

@@ -45,8 +45,8 @@ fn go_on(s: &[u8], marks: &[u16], net: Opened, floor: i64, list: &[u8], walk: &m
 }
 
 // The verdict on a list of whole rows: each is compared by numbers with what the layout by spots says of its pair. The
-// parents by spot then stand in order, distances in bl, weights in bw; parent, place and half are work arrays of the
-// figures.
+// half-branches serve the branches alone, and then spots are in half; the parents by spot stand in order, distances in
+// bl, weights in bw; parent, place and gap are work arrays of the figures.
 fn verdict(
     s: &[u8],
     marks: &[u16],
@@ -64,10 +64,18 @@ fn verdict(
 {
     let mut bl: [u64; 4096] = [0; 4096];
     let mut bw: [u64; 4096] = [0; 4096];
-    let mut spot: [u16; 4096] = [0; 4096];
+    let mut gap: [u16; 4096] = [0; 4096];
     grounded(s, marks, net.nodes, walk, &mut bl, &mut bw);
     let n = usize::from(net.nodes);
-    spots_of(walk, &mut bl, &mut bw, n, &mut spot);
+    spots_of(
+        &walk.parent,
+        &mut walk.order,
+        &walk.place,
+        &mut bl,
+        &mut bw,
+        n,
+        &mut walk.half,
+    );
     let most = u64::from(net.bound);
     let limit = Limit { most, exact: false };
     let sums = Sums {
@@ -77,7 +85,7 @@ fn verdict(
     vet_rows(
         list,
         list.len() / 16,
-        &spot,
+        &walk.half,
         &walk.order,
         &bl,
         &bw,
@@ -86,6 +94,6 @@ fn verdict(
         sums,
         &mut walk.parent,
         &mut walk.place,
-        &mut walk.half,
+        &mut gap,
     )
 }

@@ -9,12 +9,11 @@ use Rattle.layout.proofs.heaviest_pair.Goals as goal
 
 pub lay_out-requires : goal.lay_out-requires
 lay_out-requires c =
-    rw c.number.ensures.parent
-    (layable c.requires.ground.grown c.number.ensures.heads_all c.number.ensures.sizes_all c.number.ensures.seating)
+    layable c.requires.ground.grown c.number.ensures.heads_all c.number.ensures.sizes_all c.number.ensures.seating
 
 pub whole-requires : goal.whole-requires
 whole-requires c =
-    let o = rw c.number.ensures.parent at c.lay_out.ensures in
+    let o = c.lay_out.ensures in
     let paths-from-ensures = c.paths_from.ensures in
     let g = c.requires.ground in
     let p = paths-from-ensures.0 g in
@@ -30,7 +29,7 @@ whole-requires c =
 
 pub returns : goal.returns
 returns c =
-    let lay-out-ensures = rw c.number.ensures.parent at c.lay_out.ensures in
+    let lay-out-ensures = c.lay_out.ensures in
     let paths-from-ensures = c.paths_from.ensures in
     let args = c.args in
     λ g.

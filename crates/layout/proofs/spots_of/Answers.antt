@@ -7,7 +7,7 @@ pub lay_spots-requires : goal.lay_spots-requires
 lay_spots-requires c =
     let pre = c.requires in
     let l = layable pre.grown c.number.ensures.heads_all c.number.ensures.sizes_all c.number.ensures.seating in
-    record { spots = l.spots; by_index = rw c.number.ensures.parent l.parents }
+    record { spots = l.spots; by_index = l.parents }
 
 pub lay_long-requires : goal.lay_long-requires
 lay_long-requires c =
@@ -19,12 +19,10 @@ lay_long-requires-2 c =
     let pre = c.requires in
     (layable pre.grown c.number.ensures.heads_all c.number.ensures.sizes_all c.number.ensures.seating).spots
 
-pub returns-clause-spotted : goal.returns-clause-spotted
-returns-clause-spotted c =
-    let lay-long-ensures = c.lay_long.ensures in
-    let lay-spots-ensures = rw c.number.ensures.parent at c.lay_spots.ensures in
+pub returns : goal.returns
+returns c =
     let paths-from-ensures = c.paths_from.ensures in
     λ g.
     let s = c.number.ensures in
-    spotted g _ _ (paths-from-ensures.0 g) s.heads_all s.sizes_all s.seating lay-spots-ensures lay-long-ensures
+    spotted g _ _ (paths-from-ensures.0 g) s.heads_all s.sizes_all s.seating c.lay_spots.ensures c.lay_long.ensures
     c.lay_long-2.ensures

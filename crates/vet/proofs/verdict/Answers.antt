@@ -17,7 +17,7 @@ spots_of-requires c =
 pub vet_rows-requires : goal.vet_rows-requires
 vet_rows-requires c =
     let long-ensures = c.from-most.ensures in
-    let spots-of-ensures = c.spots_of.ensures.spotted in
+    let spots-of-ensures = c.spots_of.ensures in
     let from-ensures = c.from-n.ensures in
     let grounded-ensures = c.grounded.ensures in
     rows_asked from-ensures grounded-ensures spots-of-ensures (omega (arith, long-ensures))
@@ -27,7 +27,7 @@ pub returns : goal.returns
 returns c =
     let raised-ensures = c.raised.ensures in
     let long-ensures = c.from-most.ensures in
-    let spots-of-ensures = c.spots_of.ensures.spotted in
+    let spots-of-ensures = c.spots_of.ensures in
     let from-ensures = c.from-n.ensures in
     let grounded-ensures = c.grounded.ensures in
     let args = c.args in

@@ -9,6 +9,6 @@ abbrev pub invariant-loop-i : goal.invariant-loop-i
 invariant-loop-i l =
     (0 < l.i)
     × (l.i ≤ l.n)
-    × Grown l.n l.walk.parent l.walk.order l.walk.place
-    × SizesAll l.n l.walk.parent l.size
-    × Seating l.n l.walk.parent l.walk.place l.walk.half l.size l.i l.spot l.next
+    × Grown l.n l.parent l.order l.place
+    × SizesAll l.n l.parent l.size
+    × Seating l.n l.parent l.place l.head l.size l.i l.spot l.next
