@@ -15,7 +15,6 @@ pub struct Limit {
 pub fn fits(limit: Limit, length: u64) -> bool
     ensures { Decides (Fits limit length) result }
 {
-    // By the greatest length first, in either mode: told apart by the mode, it would be tested before a page's floor,
-    // which few pairs pass.
+    // The greatest length first, which both modes ask.
     length <= limit.most && (!limit.exact || length == limit.most)
 }

@@ -35,7 +35,8 @@ listed_one key l s q =
     }
 
 -- the same spots by a key that differs by the same number at each
-pub listed_again : (d ku x y : List ℕ) (s e : ℕ) (c : ℕ) → SpanListed d x s e → ((k : ℕ) → s ≤ k → k < e → at y k ≡ at x k)
+pub listed_again : (d ku x y : List ℕ) (s e : ℕ) (c : ℕ) → SpanListed d x s e
+    → ((k : ℕ) → s ≤ k → k < e → at y k ≡ at x k)
     → ((z : ℕ) → s ≤ z → z < e → at ku z + c ≡ key_lift + at d z) → SpanListed ku y s e
 listed_again d ku x y s e c h q f =
     record {

@@ -8,7 +8,7 @@ use streams::{buffer, read_full};
 // The input has room for the largest table and one byte more, enough to refuse a longer one; a page has 262,144 rows:
 // half of the 8 MB of stack that Linux gives a program.
 fn main(rt: HostRuntime) -> io::Result<()> {
-    // All three before the first `?`: what is made after one is cleared twice.
+    // All three before the first `?`: made after it, the page was cleared twice.
     let mut input = buffer::<49153>();
     let mut rows = buffer::<4194304>();
     let mut out = buffer::<65536>();
