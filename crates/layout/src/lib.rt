@@ -139,8 +139,8 @@ pub fn heaviest_pair(
 }
 
 // Between crates: each node's spot, in spot, and by spot what tells the path between any two nodes: the spot of the
-// parent, left in order, and the distance and the lifted weight from node 0, left in bl and bw. What those held is lost.
-// Parents and places are read alone, and no half-branch is asked for: so the arrays, and not the walk.
+// parent, left in order, and the distance and the lifted weight from node 0, left in bl and bw. What those held is
+// lost. Parents and places are read alone, and no half-branch is asked for: so the arrays, and not the walk.
 pub fn spots_of(
     parent: &[u16; 4096],
     order: &mut [u16; 4096],

@@ -110,8 +110,8 @@ pub fn passes(y: u64, x: u64, limit: Limit, sums: Sums) -> bool
 }
 
 impl Paths<'_> {
-    // The same of the path to v, by what fewer pairs pass first: the one length of an exact limit, or else the floor, so
-    // that of most pairs one number is read.
+    // The same of the path to v, by what fewer pairs pass first: the one length of an exact limit, or else the floor,
+    // so that of most pairs one number is read.
     fn passes(&self, v: usize, limit: Limit, sums: Sums) -> bool
         requires { v < 4096 }
         ensures { Decides (Fits limit (at self.now.key.now v) × InSums sums (at self.now.wt.now v)) result }
